@@ -1,0 +1,4 @@
+pub mod Choice
+pub mod Digits
+pub mod First
+pub mod Fold
