@@ -32,18 +32,22 @@ impl PhysRegSet {
         s.contains(r.0)
     }
 
-    pub fn insert(self, r: PhysReg) -> PhysRegSet
+    pub fn insert(mut self, r: PhysReg) -> PhysRegSet
         ensures { λ s. ⌜ s .0 ≡ setOf (λ k. has (self .0) k || eqb k (r .0)) ⌝ }
     {
         let s = self.0;
-        PhysRegSet(s.insert(r.0))
+        let t = s.insert(r.0);
+        self.0 = t;
+        self
     }
 
-    pub fn remove(self, r: PhysReg) -> PhysRegSet
+    pub fn remove(mut self, r: PhysReg) -> PhysRegSet
         ensures { λ s. ⌜ s .0 ≡ setOf (λ k. has (self .0) k && not (eqb k (r .0))) ⌝ }
     {
         let s = self.0;
-        PhysRegSet(s.remove(r.0))
+        let t = s.remove(r.0);
+        self.0 = t;
+        self
     }
 
     pub fn meet(self, other: PhysRegSet) -> PhysRegSet
