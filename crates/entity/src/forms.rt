@@ -44,6 +44,7 @@ pub enum OperandKind {
     NonAllocatable,
 }
 
+// `Misplaced` is an emergency edit whose places are not the register and the slot that it needs: refusal 6.
 pub enum Edit {
     Move {
         to: Place,
@@ -61,6 +62,10 @@ pub enum Edit {
     Ereload {
         to: PhysReg,
         from: SpillSlot,
+    },
+    Misplaced {
+        to: Place,
+        from: Place,
     },
     Nothing,
 }

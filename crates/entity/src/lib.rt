@@ -2,4 +2,5 @@
 // What a sheet's rows say of them, and every rule, is left to the crates above.
 pub mod forms;
 pub mod numbers;
+pub mod record;
 pub mod sets;

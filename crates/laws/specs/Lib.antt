@@ -2,3 +2,4 @@ pub mod Choice
 pub mod Digits
 pub mod First
 pub mod Fold
+pub mod Lists

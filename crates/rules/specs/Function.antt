@@ -1,0 +1,93 @@
+-- A function as the sweep and the model of a run see it: blocks of operations, and each block's successors.
+use mathlib.Core.Path.{_≡_}
+use mathlib.Core.Logic.{_⊎_}
+use mathlib.Core.Bool.{Bool, true, false, cond, _&&_}
+use mathlib.Core.List.{List, [], _∷_, _++_, map, flatMap}
+use Prim.Native.Nat.{ℕ}
+use lib.ListN.{getD, drop}
+use Rattle.entity.specs.declared.forms.Place.{Place}
+use Rattle.entity.specs.declared.forms.Place.the-variants.{Reg, Slot}
+use Rattle.entity.specs.declared.forms.Edit.{Edit}
+use Rattle.entity.specs.declared.forms.Edit.the-variants.{Nothing}
+use Rattle.rules.specs.Sheet.{Sheet, OpRow, BlockRow, blockCount, succsOf, clobbersOf, instsOf, instsFrom, is}
+use Rattle.rules.specs.Accept.{operandsAt}
+use Rattle.rules.specs.Forward.{indexed, allDefs, editsAt, blocks}
+
+-- an instruction: its number, the slots that its `use` operands read, the places that it defines in row order, the units that it clobbers
+pub record Inst : Type 0 where
+  pub number : ℕ
+  pub uses : List ℕ
+  pub defs : List Place
+  pub clobbers : List ℕ
+
+pub data Op : Type 0 where
+  edit : Edit → Op
+  inst : Inst → Op
+
+pub record Func : Type 0 where
+  pub blocks : List (List Op)
+  pub succs : List (List ℕ)
+
+abbrev pub opsOf : Func → ℕ → List Op
+opsOf f b = getD (f .blocks) b []
+
+abbrev pub nextOf : Func → ℕ → List ℕ
+nextOf f b = getD (f .succs) b []
+
+unfoldable pub slotOf : Place → List ℕ
+slotOf (Reg r) = []
+slotOf (Slot s) = s .0 ∷ []
+
+-- what stands in a block: rows of edits and instructions, by their numbers
+pub data Item : Type 0 where
+  row : ℕ → Item
+  ins : ℕ → Item
+
+module _ (sh : Sheet) where
+  -- "Edits at instruction i come before i, in list order."
+  unfoldable pub items : ℕ → List Item
+  items b = flatMap (λ i. map row (editsAt sh i) ++ (ins i ∷ [])) (instsOf sh b)
+
+  module _ (places : List Place) (es : List Edit) where
+    unfoldable pub instOf : ℕ → Inst
+    instOf i =
+        record {
+          number = i;
+          uses = flatMap (λ (x : ℕ × ℕ × OpRow). cond (is "use" (x .2 .kind)) (slotOf (getD places (x .1) (x .2 .place))) []) (indexed sh i);
+          defs = map (λ (d : ℕ × Place). d .1) (flatMap (allDefs sh) (operandsAt sh i));
+          clobbers = clobbersOf sh i;
+        }
+
+    unfoldable pub look : Item → Op
+    look (row j) = edit (getD es j Nothing)
+    look (ins i) = inst (instOf i)
+
+    -- the function of a sheet with these operand places and edits
+    unfoldable pub funcOf : Func
+    funcOf = record { blocks = map (λ b. map look (items b)) (blocks sh); succs = map (succsOf sh) (blocks sh) }
+
+-- ---- walks
+
+abbrev pub In : ℕ → List ℕ → Type 0
+In x [] = ⊥
+In x (y ∷ ys) = (x ≡ y) ⊎ In x ys
+
+-- one of the places is slot s
+abbrev pub SlotIn : ℕ → List Place → Type 0
+SlotIn s [] = ⊥
+SlotIn s (Reg r ∷ ps) = SlotIn s ps
+SlotIn s (Slot d ∷ ps) = (s ≡ d .0) ⊎ SlotIn s ps
+
+-- what is left of block b from position i on is os
+abbrev pub Left : Func → ℕ → ℕ → List Op → Type 0
+Left f b i os = drop i (opsOf f b) ≡ os
+
+-- each block of a walk is a listed successor of the one before
+pub data IsWalk (f : Func) : List ℕ → Type 0 where
+  stop : {b : ℕ} → IsWalk f (b ∷ [])
+  next : {b t : ℕ} {w : List ℕ} → In t (nextOf f b) → IsWalk f (t ∷ w) → IsWalk f (b ∷ t ∷ w)
+
+-- the operations of a walk's blocks, in order
+unfoldable pub along : Func → List ℕ → List Op
+along f [] = []
+along f (b ∷ w) = opsOf f b ++ along f w

@@ -1,0 +1,16 @@
+pub mod Text
+pub mod Cells
+pub mod Rows
+pub mod Sheet
+pub mod Accept
+pub mod Record
+pub mod Forward
+pub mod Function
+pub mod Sweep
+pub mod Brought
+pub mod Model
+pub mod Answer
+pub mod Computing
+pub mod Worked
+pub mod Readings
+pub mod Sheets
