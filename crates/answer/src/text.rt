@@ -1,0 +1,78 @@
+// Bytes, numbers and cells written at a place of a lent buffer; each gives back the place after it.
+use bits::tables::store_u8;
+
+pub fn put(out: &mut [u8], at: usize, b: u8) -> usize {
+    store_u8(out, at, b);
+    if at < 0xffff_ffff { at + 1 } else { at }
+}
+
+pub fn put_text(out: &mut [u8], at: usize, text: &[u8]) -> usize {
+    let mut i: usize = 0;
+    let mut next = at;
+    while i < text.len() {
+        next = put(out, next, text[i]);
+        i += 1;
+    }
+    next
+}
+
+fn digit(n: u32) -> u8 {
+    48 + (n % 10) as u8
+}
+
+// The power of ten of a number's first digit.
+fn scale(n: u32) -> u32 {
+    let mut p: u32 = 1;
+    while p <= n / 10 {
+        p = p * 10;
+    }
+    p
+}
+
+// A number in decimal, no leading zero.
+pub fn put_number(out: &mut [u8], at: usize, n: u32) -> usize {
+    let mut p = scale(n);
+    let mut next = at;
+    while 0 < p {
+        next = put(out, next, digit(n / p));
+        p = p / 10;
+    }
+    next
+}
+
+pub fn put_comma(out: &mut [u8], at: usize) -> usize {
+    put(out, at, b',')
+}
+
+pub fn put_end(out: &mut [u8], at: usize) -> usize {
+    let next = put(out, at, b'\r');
+    put(out, next, b'\n')
+}
+
+// The words that stand in an edit row.
+fn put_word(out: &mut [u8], at: usize, c: u32) -> usize {
+    match c {
+        100021 => put_text(out, at, b"move"),
+        100022 => put_text(out, at, b"remat"),
+        100023 => put_text(out, at, b"espill"),
+        100024 => put_text(out, at, b"ereload"),
+        100025 => put_text(out, at, b"none"),
+        _ => put_text(out, at, b"-"),
+    }
+}
+
+// The text of a cell: a number, a word, a register or a slot.
+pub fn put_cell(out: &mut [u8], at: usize, c: u32) -> usize {
+    if c < 100000 {
+        return put_number(out, at, c);
+    }
+    if c < 200000 {
+        return put_word(out, at, c);
+    }
+    if c < 300000 {
+        let next = put(out, at, b'r');
+        return put_number(out, next, c - 200000);
+    }
+    let next = put(out, at, b's');
+    put_number(out, next, c - 300000)
+}

@@ -1,0 +1,4 @@
+// The sweep: which slots are wanted at the ends of blocks, to the smallest solution, and then the edits struck whose slot is not wanted.
+// The edits stand in lent cells, four to a row; how they are read and written is `table`'s.
+pub mod sweep;
+mod wanted;

@@ -1,0 +1,136 @@
+// The edits as four cells each, kind, to, from and value: read as enums, and written back.
+ghost use Prim.Native.Nat.{_<_};
+use crate::rows::Kind;
+use crate::rows::row_of;
+use crate::view::DASH;
+use crate::view::place_of;
+use bits::tables::read_u32;
+use bits::tables::store_u32;
+use entity::forms::Edit;
+use entity::forms::Place;
+use entity::numbers::EditRow;
+use entity::numbers::PhysReg;
+use entity::numbers::SpillSlot;
+use entity::numbers::Value;
+
+// The words of the edit kinds.
+const MOVE: u32 = 100021;
+
+const REMAT: u32 = 100022;
+
+const ESPILL: u32 = 100023;
+
+const ERELOAD: u32 = 100024;
+
+const NONE: u32 = 100025;
+
+fn espill_of(to: Place, from: Place) -> Edit {
+    match to {
+        Place::Slot(s) => match from {
+            Place::Reg(r) => Edit::Espill { to: s, from: r },
+            Place::Slot(_) => Edit::Misplaced { to, from },
+        },
+        Place::Reg(_) => Edit::Misplaced { to, from },
+    }
+}
+
+fn ereload_of(to: Place, from: Place) -> Edit {
+    match to {
+        Place::Reg(r) => match from {
+            Place::Slot(s) => Edit::Ereload { to: r, from: s },
+            Place::Reg(_) => Edit::Misplaced { to, from },
+        },
+        Place::Slot(_) => Edit::Misplaced { to, from },
+    }
+}
+
+pub fn edit_of(k: u32, to: u32, from: u32, value: u32) -> Edit {
+    match k {
+        MOVE => Edit::Move {
+            to: place_of(to),
+            from: place_of(from),
+            value: Value(value),
+        },
+        REMAT => Edit::Remat {
+            to: place_of(to),
+            value: Value(value),
+        },
+        ESPILL => espill_of(place_of(to), place_of(from)),
+        ERELOAD => ereload_of(place_of(to), place_of(from)),
+        _ => Edit::Nothing,
+    }
+}
+
+pub fn place_cell(p: Place) -> u32 {
+    match p {
+        Place::Reg(r) => cell(200000, r.0),
+        Place::Slot(s) => cell(300000, s.0),
+    }
+}
+
+// A number with its mark; numbers have five digits at most.
+fn cell(mark: u32, n: u32) -> u32
+    requires { ⌜ mark < 1000000 ⌝ }
+{
+    mark + n % 100000
+}
+
+pub fn read_edit(edits: &[u32], n: EditRow) -> Edit {
+    let at = n.0 as usize * 4;
+    edit_of(
+        read_u32(edits, at),
+        read_u32(edits, at + 1),
+        read_u32(edits, at + 2),
+        read_u32(edits, at + 3),
+    )
+}
+
+fn store_cells(edits: &mut [u32], n: EditRow, kind: u32, to: u32, from: u32, value: u32) {
+    let at = n.0 as usize * 4;
+    store_u32(edits, at, kind);
+    store_u32(edits, at + 1, to);
+    store_u32(edits, at + 2, from);
+    store_u32(edits, at + 3, value);
+}
+
+pub fn store_edit(edits: &mut [u32], n: EditRow, e: Edit) {
+    match e {
+        Edit::Move { to, from, value } => {
+            store_cells(edits, n, MOVE, place_cell(to), place_cell(from), value.0)
+        }
+        Edit::Remat { to, value } => store_cells(edits, n, REMAT, place_cell(to), DASH, value.0),
+        Edit::Espill { to, from } => {
+            store_cells(
+                edits,
+                n,
+                ESPILL,
+                cell(300000, to.0),
+                cell(200000, from.0),
+                DASH,
+            )
+        }
+        Edit::Ereload { to, from } => {
+            store_cells(
+                edits,
+                n,
+                ERELOAD,
+                cell(200000, to.0),
+                cell(300000, from.0),
+                DASH,
+            )
+        }
+        Edit::Misplaced { to: _, from: _ } => store_cells(edits, n, NONE, DASH, DASH, DASH),
+        Edit::Nothing => store_cells(edits, n, NONE, DASH, DASH, DASH),
+    }
+}
+
+// Row n of the edits as it stands in the sheet.
+pub fn sheet_edit(t: &[u32], n: EditRow) -> Edit {
+    let row = row_of(t, Kind::EDIT, n.0);
+    edit_of(
+        read_u32(row, 2),
+        read_u32(row, 3),
+        read_u32(row, 4),
+        read_u32(row, 5),
+    )
+}

@@ -1,0 +1,218 @@
+// What a sheet says, read off its table: typed and total. Past what there is, a list is empty, a number 0 and a flag false.
+ghost use mathlib.Core.Path.{_≡_};
+ghost use lib.ListN.{getD, drop};
+ghost use Prim.Native.Nat.{_-_};
+ghost use Rattle.table.specs.Rows.{kindRow};
+ghost use Rattle.rules.specs.Sheet.{placeOf, constraintOf};
+use crate::index::Range;
+use crate::index::clob_rows;
+use crate::index::pred_rows;
+use crate::index::succ_rows;
+use crate::rows::Kind;
+use crate::rows::rest;
+use crate::rows::row_of;
+use bits::tables::read_u32;
+use entity::forms::Constraint;
+use entity::forms::OperandKind;
+use entity::forms::Place;
+use entity::numbers::Block;
+use entity::numbers::EditRow;
+use entity::numbers::Inst;
+use entity::numbers::OperandIndex;
+use entity::numbers::OperandRow;
+use entity::numbers::PhysReg;
+use entity::numbers::RegClass;
+use entity::numbers::RegGroup;
+use entity::numbers::SpillSlot;
+use entity::numbers::Value;
+use entity::numbers::ValueGroup;
+use entity::sets::FoundBlock;
+
+// The cell of `-`.
+pub const DASH: u32 = 100000;
+
+pub enum FoundSlot {
+    At(SpillSlot),
+    Nothing,
+}
+
+pub fn slot_count(t: &[u32]) -> u32
+    ensures { λ r. ⌜ r ≡ getD (kindRow (now (t .entry)) 0 0) 1 0 ⌝ }
+{
+    read_u32(row_of(t, Kind::SLOTS, 0), 1)
+}
+
+pub fn units(t: &[u32], r: PhysReg) -> &[u32]
+    ensures { λ x. ⌜ now x ≡ drop 3 (kindRow (now (t .entry)) 1 (r .0)) ⌝ }
+{
+    rest(row_of(t, Kind::REG, r.0), 3)
+}
+
+pub fn is_memory(t: &[u32], r: PhysReg) -> bool {
+    read_u32(row_of(t, Kind::REG, r.0), 2) == 1
+}
+
+pub fn members(t: &[u32], c: RegClass) -> &[u32]
+    ensures { λ x. ⌜ now x ≡ drop 3 (kindRow (now (t .entry)) 2 (c .0)) ⌝ }
+{
+    rest(row_of(t, Kind::CLASS, c.0), 3)
+}
+
+pub fn class_slots(t: &[u32], c: RegClass) -> bool {
+    read_u32(row_of(t, Kind::CLASS, c.0), 2) == 1
+}
+
+pub fn group_class(t: &[u32], g: RegGroup) -> RegClass {
+    RegClass(read_u32(row_of(t, Kind::GROUP, g.0), 2))
+}
+
+pub fn group_regs(t: &[u32], g: RegGroup) -> &[u32]
+    ensures { λ x. ⌜ now x ≡ drop 3 (kindRow (now (t .entry)) 3 (g .0)) ⌝ }
+{
+    rest(row_of(t, Kind::GROUP, g.0), 3)
+}
+
+pub fn home(t: &[u32], v: Value) -> FoundSlot {
+    let row = row_of(t, Kind::VALUE, v.0);
+    let c = read_u32(row, 2);
+    if row.len() == 0 || c == DASH {
+        FoundSlot::Nothing
+    } else {
+        FoundSlot::At(SpillSlot(c))
+    }
+}
+
+pub fn group_values(t: &[u32], g: ValueGroup) -> &[u32]
+    ensures { λ x. ⌜ now x ≡ drop 2 (kindRow (now (t .entry)) 5 (g .0)) ⌝ }
+{
+    rest(row_of(t, Kind::VGROUP, g.0), 2)
+}
+
+pub fn inst_count(t: &[u32], b: Block) -> u32 {
+    read_u32(row_of(t, Kind::BLOCK, b.0), 2)
+}
+
+pub fn idom(t: &[u32], b: Block) -> FoundBlock {
+    let row = row_of(t, Kind::BLOCK, b.0);
+    let c = read_u32(row, 3);
+    if row.len() == 0 || c == DASH {
+        FoundBlock::Nothing
+    } else {
+        FoundBlock::At(Block(c))
+    }
+}
+
+pub fn is_entry(t: &[u32], b: Block) -> bool {
+    read_u32(row_of(t, Kind::BLOCK, b.0), 4) == 1
+}
+
+// The list of the one row that a range has, if any.
+fn list(t: &[u32], k: Kind, rows: Range) -> &[u32] {
+    if rows.from < rows.to {
+        rest(row_of(t, k, rows.from), 2)
+    } else {
+        rest(t, t.len())
+    }
+}
+
+pub fn succs(t: &[u32], b: Block) -> &[u32] {
+    list(t, Kind::SUCC, succ_rows(t, b))
+}
+
+pub fn preds(t: &[u32], b: Block) -> &[u32] {
+    list(t, Kind::PRED, pred_rows(t, b))
+}
+
+pub fn clobbers(t: &[u32], i: Inst) -> &[u32] {
+    list(t, Kind::CLOB, clob_rows(t, i))
+}
+
+// A number less what a mark adds to it.
+fn less(c: u32, mark: u32) -> u32
+    ensures { λ r. ⌜ r ≡ c - mark ⌝ }
+{
+    if mark <= c { c - mark } else { 0 }
+}
+
+pub fn place_of(c: u32) -> Place
+    ensures { λ p. ⌜ p ≡ placeOf c ⌝ }
+{
+    if c < 300000 {
+        Place::Reg(PhysReg(less(c, 200000)))
+    } else {
+        Place::Slot(SpillSlot(less(c, 300000)))
+    }
+}
+
+pub fn constraint_of(c: u32) -> Constraint
+    ensures { λ r. ⌜ r ≡ constraintOf c ⌝ }
+{
+    if c < 500000 {
+        return Constraint::Class(RegClass(less(c, 400000)));
+    }
+    if c < 600000 {
+        return Constraint::Fixed(PhysReg(less(c, 500000)));
+    }
+    Constraint::Reuse(OperandIndex(less(c, 600000)))
+}
+
+// The words of the operand kinds.
+const DEF: u32 = 100014;
+
+const USE: u32 = 100015;
+
+const EARLY: u32 = 100016;
+
+const DEFG: u32 = 100017;
+
+const USEG: u32 = 100018;
+
+const EARLYG: u32 = 100019;
+
+pub fn kind_of(k: u32, v: u32) -> OperandKind {
+    match k {
+        DEF => OperandKind::Def(Value(v)),
+        USE => OperandKind::Use(Value(v)),
+        EARLY => OperandKind::EarlyDef(Value(v)),
+        DEFG => OperandKind::DefGroup(ValueGroup(v)),
+        USEG => OperandKind::UseGroup(ValueGroup(v)),
+        EARLYG => OperandKind::EarlyDefGroup(ValueGroup(v)),
+        _ => OperandKind::NonAllocatable,
+    }
+}
+
+pub struct Param {
+    pub at: Block,
+    pub value: Value,
+    pub place: Place,
+}
+
+pub fn param_at(t: &[u32], n: u32) -> Param {
+    let row = row_of(t, Kind::PARAM, n);
+    Param {
+        at: Block(read_u32(row, 1)),
+        value: Value(read_u32(row, 2)),
+        place: place_of(read_u32(row, 3)),
+    }
+}
+
+pub struct Operand {
+    pub at: Inst,
+    pub kind: OperandKind,
+    pub constraint: Constraint,
+    pub place: Place,
+}
+
+pub fn operand_at(t: &[u32], n: OperandRow) -> Operand {
+    let row = row_of(t, Kind::OP, n.0);
+    Operand {
+        at: Inst(read_u32(row, 1)),
+        kind: kind_of(read_u32(row, 2), read_u32(row, 3)),
+        constraint: constraint_of(read_u32(row, 4)),
+        place: place_of(read_u32(row, 5)),
+    }
+}
+
+pub fn edit_at(t: &[u32], n: EditRow) -> Inst {
+    Inst(read_u32(row_of(t, Kind::EDIT, n.0), 1))
+}
