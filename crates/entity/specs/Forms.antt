@@ -9,7 +9,7 @@ use Rattle.entity.specs.declared.forms.FoundLevel.the-variants.{At, Noth
 use Rattle.entity.specs.declared.forms.Refusal.{Refusal}
 use Rattle.entity.specs.declared.forms.Refusal.the-variants.{Rows, Limits, Names, Blocks, Operands, Edits, Call, Room}
 
--- "Levels: 0 `Off`, 1 per block, 2 `Forward`, 3 `Global`."
+-- "Levels: 0 `Off`, 1 per block (each block starts with nothing known), 2 `Forward`, 3 `Global`."
 abbrev pub levelNumber : Level → ℕ
 levelNumber Off = 0
 levelNumber Local = 1

@@ -7,7 +7,7 @@ use Rattle.rules.specs.Worked.{lines, WorkedSheet}
 
 pub worked-sheet : WorkedSheet
 unfolding computing lines
-worked-sheet = refl
+worked-sheet = record { gives = refl; program-c1 = (refl, refl); program-empty = refl; returned-c1 = (refl, refl); buffer-c1 = (refl, refl) }
 
 pub readings-hold : Readings
 unfolding computing lines

@@ -29,7 +29,7 @@ reuseWithin (Fixed r) = true
 reuseWithin (Reuse k) = ltb (k .0) reuseLimit
 
 -- "Limits: 64 slots, 128 registers, 128 units, 16 classes, 32 register groups, 256 values, 32 value groups, 64 blocks, 512 instructions,
--- 2,048 operands, 1,024 edits."
+-- 2,048 operands, 1,024 edits." More than 128 units need one over 127.
 unfoldable pub withinLimits : Sheet → Bool
 withinLimits sh =
     leb (sh .slots) slotLimit
@@ -285,7 +285,7 @@ placed (Ereload r s) = true
 placed (Misplaced to p) = false
 placed Nothing = true
 
--- "within a block these not alternating as pairs of one slot and one register, spill first, each closed": `open` is the spill not yet closed
+-- "within a block these not alternating as pairs of one slot and one register, spill first, each closed": `open′` is the spill not yet closed
 unfoldable pub paired : Option (ℕ × ℕ) → List Edit → Bool
 paired none [] = true
 paired (some open′) [] = false

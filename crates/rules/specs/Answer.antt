@@ -37,6 +37,7 @@ editCells (Move to p v) = word "move" ∷ placeCell to ∷ placeCell p ∷ v .0 
 editCells (Remat to v) = word "remat" ∷ placeCell to ∷ word "-" ∷ v .0 ∷ []
 editCells (Espill s r) = word "espill" ∷ placeCell (Slot s) ∷ placeCell (Reg r) ∷ word "-" ∷ []
 editCells (Ereload r s) = word "ereload" ∷ placeCell (Reg r) ∷ placeCell (Slot s) ∷ word "-" ∷ []
+-- refused with 6, and never written
 editCells (Misplaced to p) = word "none" ∷ word "-" ∷ word "-" ∷ word "-" ∷ []
 editCells Nothing = word "none" ∷ word "-" ∷ word "-" ∷ word "-" ∷ []
 
@@ -71,7 +72,7 @@ pub data Answer : Type 0 where
   refused : Refusal → Answer
   written : List ℕ → Answer
 
--- "8: output buffer shorter than the answer"
+-- 8: "output buffer shorter than the answer"
 unfoldable pub fitted : List ℕ → ℕ → Answer
 fitted text capacity = elim (leb (length text) capacity) [ true ↦ written text | false ↦ refused Room ]
 
@@ -87,7 +88,7 @@ firstRefusal (c ∷ cs) = cond (c .0) (firstRefusal cs) (some (c .1))
 unfoldable pub checked : Level → Bool → ℕ → Sheet → Answer
 checked level swept capacity sh = Option·elim (firstRefusal (checks sh)) (fitted (cleaned sh level swept) capacity) refused
 
--- "7: level over 3 or sweep flag over 1"
+-- 7: "level over 3 or sweep flag over 1"
 unfoldable pub called : ℕ → ℕ → Option (Level × Bool)
 called level flag = elim (levelOf level) [ Found.At l ↦ cond (leb flag 1) (some (l, eqb flag 1)) none | Found.Nothing ↦ none ]
 

@@ -31,7 +31,8 @@ pub record Known : Type 0 where
 unfoldable pub nothing : Known
 nothing = record { held = replicate regLimit absent; stored = replicate slotLimit absent }
 
--- the count row's counts, in its order
+-- "one `count` row: blocks_preprocessed_for_optimizer, optimized_redundant_reload, _move, _remat, _spill, optimized_reload_to_move,
+-- optimized_stack_use, eliminated_dead_spill, eliminated_dead_remat"
 abbrev pub preprocessed : ℕ
 preprocessed = 0
 
@@ -152,7 +153,7 @@ module _ (sh : Sheet) where
   unfoldable pub reused : ℕ → ℕ → Bool
   reused i k = any (λ o. elim (o .constraint) [ Class c ↦ false | Fixed r ↦ false | Reuse n ↦ eqb (n .0) k ]) (operandsAt sh i)
 
-  -- "Folding: a `use` in memory, class constraint, index not reused, gets the lowest non-memory class register holding v."
+  -- "Folding: a `use` in memory, class constraint, index not reused, gets the lowest non-memory class register holding v." "each fold stack_use"
   unfoldable pub foldTo : OpRow → ℕ → Record → Option ℕ
   foldTo o k s =
       elim (is "use" (o .kind) && inMemory (o .place) && not (reused (o .at) k)) [
@@ -207,11 +208,12 @@ module _ (sh : Sheet) where
   removal (Reg r) none = redundantRemat
   removal (Reg r) (some p) = cond (inMemory p) redundantReload redundantMove
 
-  -- "A surviving move from memory takes the lowest non-memory register holding v, if any."
+  -- "A surviving move from memory (a slot or a register flagged memory) takes the lowest non-memory register holding v, if any." "each source so
+  -- replaced is reload_to_move"
   unfoldable pub newSource : Place → ℕ → Record → Option ℕ
   newSource p v s = cond (inMemory p) (lowestHolding (λ r. true) v s) none
 
-  -- row j of the edits becomes e, the rule k fires, and e has its effect
+  -- row j of the edits becomes e, and e has its effect on the record s
   abbrev pub becomes : ℕ → Edit → List ℕ → Record → Walk → Walk
   becomes j e counts s w = record { rec = effect sh e s; edits = set (w .edits) j e; places = w .places; counts = counts }
 
@@ -305,7 +307,7 @@ module _ (sh : Sheet) where
   unfoldable pub globalStart : Handed
   globalStart = record { states = map (λ b. cond (isEntry sh b) (some nothing) none) blocks; waiting = keep (isEntry sh) blocks }
 
-  -- "an exit block is not counted or walked"
+  -- "an exit block is not counted or walked"; "each visit of the preparing walk blocks_preprocessed"
   unfoldable pub visit : Walk × Handed → ℕ → Walk × Handed
   visit wh b =
       let h : Handed = record { states = wh .1 .states; waiting = keep (λ t. not (eqb t b)) (wh .1 .waiting) } in

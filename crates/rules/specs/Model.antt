@@ -9,7 +9,7 @@ use Rattle.entity.specs.declared.forms.Edit.{Edit}
 use Rattle.entity.specs.declared.forms.Edit.the-variants.{Move, Remat, Espill, Ereload, Misplaced, Nothing}
 use Rattle.rules.specs.Function.{Inst, Op, edit, inst, In}
 
--- the words of the units and of the slots, and how many instructions have run
+-- the word of each unit and the words of each slot, and how many instructions have run
 pub record State : Type 0 where
   pub regs : ℕ → ℕ
   pub slots : ℕ → List ℕ
@@ -18,7 +18,7 @@ pub record State : Type 0 where
 -- What is arbitrary in a run:
 --   units r               the units of register r, "in unit order of the row"
 --   value v               "A remat writes words fixed by its value."
---   effect n k regs used  what definition k of instruction n writes: "words that depend on the instruction, the operand, all registers and the
+--   effect n k regs used  what definition k of instruction n writes, group members counted one by one: "words that depend on the instruction, the operand, all registers and the
 --                         used slots"
 --   supply c u            what unit u holds after the instruction at time c clobbered it; 01's "reads 0 afterwards" is the supply of zeros
 pub record Machine : Type 0 where

@@ -99,6 +99,12 @@ readings =
     ∷ example "slots,1/value,0,0/block,0,1,-,1/edit,0,remat,s0,-,0/edit,0,remat,s0,-,0/" 1 0 65536 (writes "edit,0,remat,s0,-,0/edit,0,none,-,-,-/count,0,0,0,0,1,0,0,0,0/")  -- F.28
     ∷ example "slots,1/reg,0,0,0/class,0,1,0/value,0,0/value,1,-/block,0,2,-,1/op,0,def,0,c0,r0/op,1,use,0,c0,s0/op,1,early,1,c0,r0/" 1 0 65536 (writes "count,0,0,0,0,0,0,0,0,0/")  -- F.29
     ∷ example "slots,1/reg,0,0,0/class,0,1,0/value,0,0/block,0,1,-,1/op,0,use,0,c0,s0/op,0,early,0,c0,r0/" 1 0 65536 (writes "fold,0,0,r0/count,0,0,0,0,0,0,1,0,0/")  -- F.30
+    ∷ example "slots,0/reg,0,0,0/value,0,-/block,0,1,-,1/block,1,2,0,0/succ,0,1/pred,1,0/op,0,def,0,f0,r0/clob,1,0/edit,2,remat,r0,-,0/" 2 0 65536 (writes "edit,2,remat,r0,-,0/count,0,0,0,0,0,0,0,0,0/")  -- F.31
+    ∷ example "slots,0/reg,0,0,0/value,0,-/block,0,1,-,1/param,0,0,r0/edit,0,remat,r0,-,0/" 1 0 65536 (writes "edit,0,none,-,-,-/count,0,0,0,1,0,0,0,0,0/")  -- F.32
+    ∷ example "slots,2/reg,0,0,0/class,0,1,0/value,0,0/block,0,3,-,1/op,0,def,0,c0,r0/op,1,def,0,c0,s1/edit,2,move,r0,s1,0/" 1 0 65536 (writes "edit,2,move,r0,s1,0/count,0,0,0,0,0,0,0,0,0/")  -- F.33
+    ∷ example "slots,2/value,0,0/block,0,1,-,1/edit,0,remat,s1,-,0/edit,0,remat,s1,-,0/" 1 0 65536 (writes "edit,0,remat,s1,-,0/edit,0,remat,s1,-,0/count,0,0,0,0,0,0,0,0,0/")  -- F.34
+    ∷ example "slots,0/reg,0,0,0/reg,1,0,1/class,0,0,0/group,0,0,0,1/value,0,-/value,1,-/vgroup,0,0,1/block,0,2,-,1/op,0,defg,0,c0,r0/edit,1,remat,r1,-,1/" 1 0 65536 (writes "edit,1,none,-,-,-/count,0,0,0,1,0,0,0,0,0/")  -- F.35
+    ∷ example "slots,0/reg,0,0,0/value,0,-/block,0,1,-,1/block,1,1,0,0/block,2,1,1,0/succ,0,1/succ,1,2/succ,2,1/pred,1,0,2/pred,2,1/op,0,def,0,f0,r0/clob,2,0/edit,1,remat,r0,-,0/" 3 0 65536 (writes "edit,1,remat,r0,-,0/count,4,0,0,0,0,0,0,0,0/")  -- F.36
     ∷ example "slots,1/reg,0,0,0/class,0,1,0/value,0,0/block,0,3,-,1/op,0,def,0,c0,r0/op,1,use,0,c0,s0/edit,1,move,s0,r0,0/" 1 1 65536 (writes "fold,1,0,r0/edit,1,none,-,-,-/count,0,0,0,0,0,0,1,1,0/")  -- S.1
     ∷ example "slots,1/reg,0,0,0/class,0,1/value,0,0/value,1,-/block,0,1,-,1/op,0,use,0,c0,s0/op,0,early,1,c0,s0/edit,0,move,s0,r0,0/" 0 1 65536 (writes "edit,0,move,s0,r0,0/count,0,0,0,0,0,0,0,0,0/")  -- S.2
     ∷ example "slots,1/reg,0,0,0/class,0,1/value,0,0/block,0,1,-,1/block,1,1,0,0/succ,0,1/pred,1,0/param,1,0,s0/op,1,use,0,c0,s0/edit,0,move,s0,r0,0/" 0 1 65536 (writes "edit,0,move,s0,r0,0/count,0,0,0,0,0,0,0,0,0/")  -- S.3

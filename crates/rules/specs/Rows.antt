@@ -171,7 +171,7 @@ unfoldable pub sheetOk : List (List ℕ) → Bool
 sheetOk [] = false
 sheetOk (r ∷ rs) = eqb (kind r) (word "slots") && all rowOk (r ∷ rs) && pairsOk r rs
 
--- "1: sheet over 65,536 bytes, or broken rows"
+-- 1: "sheet over 65,536 bytes, or broken rows"
 unfoldable pub rowsOf : List ℕ → Option (List (List ℕ))
 rowsOf s = cond (leb (length s) 65536) (bind (cellsOf s) (λ rows. cond (sheetOk rows) (some rows) none)) none
 

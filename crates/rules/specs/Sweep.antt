@@ -142,7 +142,7 @@ ends f = settle f (length (f .blocks) * slotLimit + 1) (map (λ ts. []) (f .succ
 
 -- ---- the rows
 
--- "An edit into a slot not wanted .. is removed." "Emergency edits stay."
+-- "An edit into a slot not wanted does nothing and is removed." "Emergency edits stay"
 unfoldable pub strike : Edit → List ℕ → Edit
 strike (Move (Reg r) p v) A = Move (Reg r) p v
 strike (Move (Slot d) p v) A = cond (isIn (d .0) A) (Move (Slot d) p v) Nothing
@@ -161,7 +161,7 @@ isNothing (Ereload r q) = false
 isNothing (Misplaced to p) = false
 isNothing Nothing = true
 
--- a move struck is a dead spill, a remat struck a dead remat
+-- "the sweep counts a move as dead spill, a remat as dead remat"
 unfoldable pub struck : List ℕ → Edit × Edit → List ℕ
 struck counts ee =
     elim (isNothing (ee .1)) [

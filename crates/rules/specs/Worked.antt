@@ -1,15 +1,17 @@
--- Document 01, "Worked sheet": C1 to C11 as one table, and the "Easy slips" and their like as another, with what the definitions must answer.
+-- Document 01, "Worked sheet": C1 to C11 as one table, with what the definitions must answer.
 use mathlib.Core.Path.{_≡_}
 use mathlib.Core.Bool.{Bool, cond}
-use mathlib.Core.List.{List, [], _∷_, map, flatMap}
+use mathlib.Core.List.{List, [], _∷_, _++_, map, flatMap}
 use Prim.Native.Nat.{ℕ}
 use Prim.Native.Char.{code}
 use Prim.Native.String.{String}
 use lib.Dec.{eqb}
+use lib.IntN.{ℤ, pos, negℤ}
+use lib.ListN.{length, replicate}
 use Rattle.entity.specs.declared.forms.Refusal.{Refusal}
 use Rattle.entity.specs.declared.forms.Refusal.the-variants.{Rows, Limits, Operands, Call, Room}
 use Rattle.rules.specs.Text.{bytes}
-use Rattle.rules.specs.Answer.{Answer, refused, written, answer}
+use Rattle.rules.specs.Answer.{Answer, refused, written, answer, returned, buffer, program}
 
 -- a text in which `/` stands for CR LF
 unfoldable pub lines : String → List ℕ
@@ -29,7 +31,7 @@ example t l s n a = record { sheet = t; level = l; sweep = s; room = n; gives = 
 abbrev pub writes : String → Answer
 writes t = written (lines t)
 
--- C1's rows before and from its operands on
+-- C1's sheet and its answer
 abbrev pub c1 : String
 c1 = "slots,1/reg,0,0,0/class,0,1,0/value,0,0/block,0,3,-,1/op,0,def,0,c0,r0/op,1,use,0,c0,s0/edit,1,move,s0,r0,0/"
 
@@ -68,6 +70,11 @@ table =
 abbrev pub Gives : List Example → Type 0
 Gives es = map (λ e. answer (lines (e .sheet)) (e .level) (e .sweep) (e .room)) es ≡ map (λ e. e .gives) es
 
--- "C1 to C11 are a single table, shown right for the definitions by one theorem."
-abbrev pub WorkedSheet : Type 0
-WorkedSheet = Gives table
+-- "C1 to C11 are a single table, shown right for the definitions by one theorem." "The program writes exactly 57 bytes": its answer to C1, what the
+-- call returns and what it leaves in a buffer; and the same of a refusal.
+pub record WorkedSheet : Type 0 where
+  pub gives : Gives table
+  pub program-c1 : (program (lines c1) ≡ lines c1Answer) × (length (program (lines c1)) ≡ 57)
+  pub program-empty : program [] ≡ lines "refused,1/"
+  pub returned-c1 : (returned (answer (lines c1) 1 1 60) ≡ pos 57) × (returned (answer (lines c1) 1 1 56) ≡ negℤ (pos 8))
+  pub buffer-c1 : (buffer (answer (lines c1) 1 1 60) (replicate 60 7) ≡ lines c1Answer ++ replicate 3 7) × (buffer (answer (lines c1) 1 1 56) (replicate 56 7) ≡ replicate 56 7)
