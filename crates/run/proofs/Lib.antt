@@ -1,0 +1,15 @@
+pub mod Lists
+pub mod Alike
+pub mod Safe
+pub mod Exact
+pub mod Sets
+pub mod Back
+pub mod Settle
+pub mod Rows
+pub mod Stand
+pub mod Struck
+pub mod Clobber
+pub mod Theorem
+pub mod Examples
+pub mod Within
+pub mod Call

@@ -1,0 +1,3 @@
+pub mod Swept
+pub mod Theorem
+pub mod Examples
