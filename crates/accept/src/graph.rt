@@ -1,0 +1,81 @@
+// How blocks stand to each other: their neighbours as the rows list them, and dominance by the rows' idoms.
+ghost use mathlib.Core.Path.{_≡_};
+ghost use Prim.Native.Nat.{_-_};
+ghost use lib.ListN.{take, drop};
+use bits::tables::read_u32;
+use entity::numbers::Block;
+use entity::sets::FoundBlock;
+use table::INDEX;
+use table::STARTS;
+use table::index::Range;
+use table::index::pred_rows;
+use table::index::succ_rows;
+use table::rows::Kind;
+use table::rows::part;
+use table::view::idom;
+
+pub enum Direction {
+    Successors,
+    Predecessors,
+}
+
+// A part of the successor list or of the predecessor list.
+pub fn neighbours<'a>(d: Direction, succs: &'a [u32], preds: &'a [u32], at: Range) -> &'a [u32] {
+    let from = at.from as usize;
+    let to = at.to as usize;
+    match d {
+        Direction::Successors => part(succs, from, to),
+        Direction::Predecessors => part(preds, from, to),
+    }
+}
+
+// Where row i starts.
+fn start(t: &[u32], i: u32) -> u32 {
+    read_u32(t, STARTS + i as usize)
+}
+
+// Where the rows of a kind start.
+fn first_cell(t: &[u32], k: Kind) -> u32 {
+    start(t, read_u32(t, INDEX + k.0 as usize))
+}
+
+// The cells of all rows of a kind, up to the rows of the next one.
+fn stretch(t: &[u32], k: Kind, next: Kind) -> &[u32] {
+    part(t, first_cell(t, k) as usize, first_cell(t, next) as usize)
+}
+
+// A number less another, 0 where that is greater.
+fn less(a: u32, b: u32) -> u32 {
+    if b <= a { a - b } else { 0 }
+}
+
+// Where, in the stretch of a kind, the list of the one row stands that a range has, if any.
+fn list_at(t: &[u32], k: Kind, rows: Range) -> Range {
+    if rows.to <= rows.from {
+        return Range { from: 0, to: 0 };
+    }
+    let base = first_cell(t, k);
+    let row = read_u32(t, INDEX + k.0 as usize) % 65536 + rows.from % 65536;
+    Range {
+        from: less(start(t, row) % 65536 + 2, base),
+        to: less(start(t, row + 1), base),
+    }
+}
+
+pub fn neighbours_of(t: &[u32], d: Direction, b: Block) -> &[u32] {
+    let succs = stretch(t, Kind::SUCC, Kind::PRED);
+    let preds = stretch(t, Kind::PRED, Kind::PARAM);
+    let at = match d {
+        Direction::Successors => list_at(t, Kind::SUCC, succ_rows(t, b)),
+        Direction::Predecessors => list_at(t, Kind::PRED, pred_rows(t, b)),
+    };
+    neighbours(d, succs, preds, at)
+}
+
+pub fn succs(t: &[u32], b: Block) -> &[u32] {
+    neighbours_of(t, Direction::Successors, b)
+}
+
+pub fn preds(t: &[u32], b: Block) -> &[u32] {
+    neighbours_of(t, Direction::Predecessors, b)
+}

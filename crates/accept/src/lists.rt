@@ -1,0 +1,96 @@
+// Tests over a list of numbers, and the sets of such lists.
+ghost use mathlib.Core.Path.{_≡_};
+ghost use mathlib.Core.Bool.{true, _&&_, _||_};
+ghost use lib.Dec.{ltb};
+use bits::sets::NumberSet;
+
+// Each of them is below `limit`.
+pub fn all_below(list: &[u32], limit: u32) -> bool {
+    let mut i: usize = 0;
+    while i < list.len() {
+        if list[i] >= limit {
+            return false;
+        }
+        i += 1;
+    }
+    true
+}
+
+// x is one of them.
+pub fn is_in(x: u32, list: &[u32]) -> bool {
+    let mut i: usize = 0;
+    while i < list.len() {
+        if x == list[i] {
+            return true;
+        }
+        i += 1;
+    }
+    false
+}
+
+// One of them stands twice, where all are below `NumberSet::LIMIT`.
+pub fn stands_twice(list: &[u32]) -> bool {
+    let mut seen = NumberSet::empty();
+    let mut i: usize = 0;
+    while i < list.len() {
+        let x = list[i];
+        if seen.contains(x) {
+            return true;
+        }
+        seen = seen.insert(x);
+        i += 1;
+    }
+    false
+}
+
+// Each of them is in the set.
+pub fn all_in(list: &[u32], s: NumberSet) -> bool {
+    let mut i: usize = 0;
+    while i < list.len() {
+        let x = list[i];
+        if !s.contains(x) {
+            return false;
+        }
+        i += 1;
+    }
+    true
+}
+
+// One of them is in the set.
+pub fn any_in(list: &[u32], s: NumberSet) -> bool {
+    let mut i: usize = 0;
+    while i < list.len() {
+        let x = list[i];
+        if s.contains(x) {
+            return true;
+        }
+        i += 1;
+    }
+    false
+}
+
+// The set with each of them.
+pub fn with_all(s: NumberSet, list: &[u32]) -> NumberSet {
+    let mut grown = s;
+    let mut i: usize = 0;
+    while i < list.len() {
+        let x = list[i];
+        grown = grown.insert(x);
+        i += 1;
+    }
+    grown
+}
+
+// The set with each of them that is in `seen`.
+pub fn with_seen(s: NumberSet, seen: NumberSet, list: &[u32]) -> NumberSet {
+    let mut grown = s;
+    let mut i: usize = 0;
+    while i < list.len() {
+        let x = list[i];
+        if seen.contains(x) {
+            grown = grown.insert(x);
+        }
+        i += 1;
+    }
+    grown
+}

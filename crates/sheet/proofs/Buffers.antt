@@ -1,0 +1,37 @@
+-- A table that is filled from the front of each of its sections, and the sections' lists, a row more at a time. Assumes nothing.
+use mathlib.Core.Path.{_≡_, refl, _∙_, ap}
+use mathlib.Core.List.{List, [], _∷_, _++_, append-assoc, append-nil}
+use Prim.Native.Nat.{ℕ, _+_, _<_}
+use native.Mathlib.Nat.{add-assoc}
+use native.Mathlib.Numerals.{add-one}
+use native.Mathlib.Omega.{arith}
+use lib.ListN.{length, take, drop, set, length-append, length-drop}
+use lib.Seq.{take-suc-set, drop-set-add}
+use Rattle.sheet.specs.Table.{flatten, offsets}
+
+-- ---- filling
+
+-- one store more, just past what is written
+pub take-store : (t : List ℕ) (n a : ℕ) → n < length t → take (n + 1) (set t n a) ≡ take n t ++ (a ∷ [])
+take-store t n a h = rw add-one (take-suc-set t n a h)
+
+-- the same in the section that starts at b
+pub section-store : (t : List ℕ) (b j a : ℕ) → b + j < length t → take (j + 1) (drop b (set t (b + j) a)) ≡ take j (drop b t) ++ (a ∷ [])
+section-store t b j a h = rw drop-set-add (take-store (drop b t) j a (rw length-drop (omega arith)))
+
+-- ---- the cells, and the starts
+
+pub flatten-more : (rs : List (List ℕ)) (r : List ℕ) → flatten (rs ++ (r ∷ [])) ≡ flatten rs ++ r
+unfolding flatten
+flatten-more [] r = append-nil r
+flatten-more (x ∷ rs) r = rw (flatten-more rs r, append-assoc)
+
+pub length-offsets : (rs : List (List ℕ)) (a : ℕ) → length (offsets a rs) ≡ length rs + 1
+unfolding offsets
+length-offsets [] a = refl
+length-offsets (r ∷ rs) a = rw (length-offsets rs (a + length r)) (omega arith)
+
+pub offsets-more : (rs : List (List ℕ)) (a : ℕ) (r : List ℕ) → offsets a (rs ++ (r ∷ [])) ≡ offsets a rs ++ ((a + length (flatten rs ++ r)) ∷ [])
+unfolding offsets flatten
+offsets-more [] a r = refl
+offsets-more (x ∷ rs) a r = ap (λ (l : List ℕ). a ∷ l) (offsets-more rs (a + length x) r ∙ rw (add-assoc, ← length-append, append-assoc))

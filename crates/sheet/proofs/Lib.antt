@@ -1,0 +1,16 @@
+pub mod Lists
+pub mod Numbers
+pub mod Marks
+pub mod Tables
+pub mod Packing
+pub mod Answers
+pub mod Pieces
+pub mod Cuts
+pub mod Buffers
+pub mod Reading
+pub mod Fitting
+pub mod Order
+pub mod Holding
+pub mod Beginnings
+pub mod Answering
+pub mod Kindred

@@ -1,0 +1,52 @@
+-- What the functions answer, by the definitions of rules.
+use Prim.Native.Nat.{ℕ, _+_}
+use Prim.Native.Char.{code}
+use mathlib.Core.Bool.{Bool, true, false, cond, _&&_, _||_}
+use mathlib.Core.List.{List, [], _∷_}
+use mathlib.Core.Option.{Option, none, some}
+use lib.ListN.{length, drop}
+use lib.Dec.{eqb}
+use Rattle.rules.specs.Cells.{cellOf}
+use Rattle.sheet.specs.declared.fields.Num.{Num}
+use Rattle.sheet.specs.declared.fields.Num.the-variants.{Is, Nothing}
+use Rattle.sheet.specs.declared.lexing.Piece.{Piece}
+use Rattle.sheet.specs.declared.lexing.Piece.the-variants.{More, Last, Unread}
+use Rattle.sheet.specs.declared.lexing.Lexed.{Lexed}
+use Rattle.sheet.specs.declared.lexing.Lexed.the-variants.{Rows, Broken}
+
+unfoldable pub asNum : Option ℕ → Num
+asNum none = Nothing
+asNum (some n) = Is n
+
+-- the bytes before the first comma or CR
+unfoldable pub upTo : List ℕ → List ℕ
+upTo [] = []
+upTo (b ∷ bs) = cond (eqb b (code ",") || eqb b (code "\r")) [] (b ∷ upTo bs)
+
+-- does t begin with a comma; with CR LF
+unfoldable pub comma : List ℕ → Bool
+comma [] = false
+comma (b ∷ bs) = eqb b (code ",")
+
+unfoldable pub crlf : List ℕ → Bool
+crlf [] = false
+crlf (a ∷ []) = false
+crlf (a ∷ b ∷ bs) = eqb a (code "\r") && eqb b (code "\n")
+
+unfoldable pub ended : Option ℕ → Bool → Bool → ℕ → Piece
+ended none isComma isEnd e = Unread
+ended (some c) true isEnd e = More c e
+ended (some c) false true e = Last c e
+ended (some c) false false e = Unread
+
+-- the field that t begins with, where t stands at `at`
+unfoldable pub fieldAt : List ℕ → ℕ → Piece
+fieldAt t at =
+    let f = upTo t in
+    let u = drop (length f) t in
+    ended (cellOf f) (comma u) (crlf u) (at + length f)
+
+-- how many rows there are
+unfoldable pub asLexed : Option (List (List ℕ)) → Lexed
+asLexed none = Broken
+asLexed (some rs) = Rows (length rs)

@@ -1,0 +1,4 @@
+pub mod Packing
+pub mod Answers
+pub mod Table
+pub mod Grammar

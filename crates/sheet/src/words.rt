@@ -1,0 +1,44 @@
+// The cells of the words that grammar and shapes name.
+pub const DASH: u32 = 100000;
+
+pub const SLOTS: u32 = 100001;
+
+pub const REG: u32 = 100002;
+
+pub const CLASS: u32 = 100003;
+
+pub const GROUP: u32 = 100004;
+
+pub const VALUE: u32 = 100005;
+
+pub const VGROUP: u32 = 100006;
+
+pub const BLOCK: u32 = 100007;
+
+pub const SUCC: u32 = 100008;
+
+pub const PRED: u32 = 100009;
+
+pub const PARAM: u32 = 100010;
+
+pub const OP: u32 = 100011;
+
+pub const CLOB: u32 = 100012;
+
+pub const EDIT: u32 = 100013;
+
+pub const DEF: u32 = 100014;
+
+pub const EARLYG: u32 = 100019;
+
+pub const FIXED: u32 = 100020;
+
+pub const MOVE: u32 = 100021;
+
+pub const REMAT: u32 = 100022;
+
+pub const ESPILL: u32 = 100023;
+
+pub const ERELOAD: u32 = 100024;
+
+pub const NONE: u32 = 100025;
