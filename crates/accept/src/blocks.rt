@@ -1,12 +1,12 @@
 // Refusal 4: the block rules. Blocks are below 64, as limits and names hold: sets hold them all.
 use crate::graph::preds;
 use crate::graph::succs;
-use crate::lists::is_in;
-use crate::lists::with_all;
 use bits::tables::read_u32;
 use entity::numbers::Block;
 use entity::sets::BlockSet;
 use entity::sets::FoundBlock;
+use names::lists::is_in;
+use names::lists::with_all;
 use table::rows::Kind;
 use table::rows::count;
 use table::view::idom;

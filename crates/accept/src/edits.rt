@@ -1,7 +1,4 @@
 // Refusal 6: the edit rules. An instruction's edits are looked up only once they stand in order.
-use crate::lists::any_in;
-use crate::lists::with_all;
-use crate::lists::with_seen;
 use bits::sets::NumberSet;
 use entity::forms::Edit;
 use entity::numbers::Block;
@@ -12,6 +9,9 @@ use entity::numbers::SpillSlot;
 use entity::numbers::Value;
 use entity::sets::SlotSet;
 use entity::sets::UnitSet;
+use names::lists::any_in;
+use names::lists::with_all;
+use names::lists::with_seen;
 use table::edits::sheet_edit;
 use table::index::Range;
 use table::index::edit_rows;

@@ -1,9 +1,6 @@
-// What is accepted: refusals 2 to 6 of document 01, each a function that is true where the sheet in a table keeps its rules.
-// 2 goes by the rows alone; `table::index::build` follows it, and 3 to 6 go by the index too. Refusals 1, 7 and 8 are left to others.
+// Refusals 4 to 6 of document 01, each a function that is true where the sheet in a table keeps its rules: blocks, operands and edits.
+// They go by the index that `table::index::build` fills, once 2 and 3 hold. The other refusals are left to `sheet`, `names` and the call.
 pub mod blocks;
 pub mod edits;
 pub mod graph;
-pub mod limits;
-pub mod lists;
-pub mod names;
 pub mod operands;

@@ -1,6 +1,4 @@
 // Refusal 5: the operand rules. What an operand names is there, as 3 holds.
-use crate::lists::is_in;
-use crate::names::headed_by;
 use entity::forms::Constraint;
 use entity::forms::OperandKind;
 use entity::forms::Place;
@@ -11,6 +9,8 @@ use entity::numbers::PhysReg;
 use entity::numbers::RegClass;
 use entity::numbers::RegGroup;
 use entity::numbers::ValueGroup;
+use names::lists::is_in;
+use names::names::headed_by;
 use table::index::op_rows;
 use table::rows::Kind;
 use table::rows::count;

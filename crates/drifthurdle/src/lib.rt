@@ -2,8 +2,6 @@
 // many bytes it wrote, or minus a refusal number, and then it wrote none.
 use accept::blocks::blocks_hold;
 use accept::edits::edits_hold;
-use accept::limits::within_limits;
-use accept::names::names_hold;
 use accept::operands::operands_hold;
 use answer::rows::COUNTS;
 use answer::rows::render;
@@ -14,6 +12,8 @@ use entity::forms::FoundLevel;
 use entity::forms::Level;
 use entity::forms::Refusal;
 use move_optimizer::levels::optimise;
+use names::limits::within_limits;
+use names::names::names_hold;
 use sheet::read;
 use table::index::build;
 use table::rows::Kind;

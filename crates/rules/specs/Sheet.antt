@@ -162,27 +162,27 @@ field i r = getD r i 0
 unfoldable pub listRow : List ℕ → ListRow
 listRow r = record { at = field 1 r; list = drop 2 r }
 
--- the rows of one kind, each read by f
-unfoldable pub each : {A : Type 0} → (List ℕ → A) → String → List (List ℕ) → List A
-each f kind rows = map f (keep (λ r. eqb (field 0 r) (word kind)) rows)
+-- what a sheet says whose rows of each kind are these
+unfoldable pub sheetBy : (String → List (List ℕ)) → Sheet
+sheetBy rows =
+    record {
+      slots = getD (map (field 1) (rows "slots")) 0 0;
+      regs = map (λ r. record { memory = flagOf (field 2 r); units = drop 3 r }) (rows "reg");
+      classes = map (λ r. record { slots = flagOf (field 2 r); members = drop 3 r }) (rows "class");
+      groups = map (λ r. record { class = field 2 r; regs = drop 3 r }) (rows "group");
+      values = map (λ r. maybe (field 2 r)) (rows "value");
+      vgroups = map (drop 2) (rows "vgroup");
+      blocks = map (λ r. record { instructions = field 2 r; idom = maybe (field 3 r); entry = flagOf (field 4 r) }) (rows "block");
+      succs = map listRow (rows "succ");
+      preds = map listRow (rows "pred");
+      params = map (λ r. record { at = field 1 r; value = field 2 r; place = placeOf (field 3 r) }) (rows "param");
+      ops = map (λ r. record { at = field 1 r; kind = kindOf (field 2 r) (field 3 r); constraint = constraintOf (field 4 r); place = placeOf (field 5 r) }) (rows "op");
+      clobs = map listRow (rows "clob");
+      edits = map (λ r. record { at = field 1 r; edit = editOf (field 2 r) (field 3 r) (field 4 r) (field 5 r) }) (rows "edit");
+    }
 
 unfoldable pub sheetOf : List (List ℕ) → Sheet
-sheetOf rows =
-    record {
-      slots = getD (each (field 1) "slots" rows) 0 0;
-      regs = each (λ r. record { memory = flagOf (field 2 r); units = drop 3 r }) "reg" rows;
-      classes = each (λ r. record { slots = flagOf (field 2 r); members = drop 3 r }) "class" rows;
-      groups = each (λ r. record { class = field 2 r; regs = drop 3 r }) "group" rows;
-      values = each (λ r. maybe (field 2 r)) "value" rows;
-      vgroups = each (drop 2) "vgroup" rows;
-      blocks = each (λ r. record { instructions = field 2 r; idom = maybe (field 3 r); entry = flagOf (field 4 r) }) "block" rows;
-      succs = each listRow "succ" rows;
-      preds = each listRow "pred" rows;
-      params = each (λ r. record { at = field 1 r; value = field 2 r; place = placeOf (field 3 r) }) "param" rows;
-      ops = each (λ r. record { at = field 1 r; kind = kindOf (field 2 r) (field 3 r); constraint = constraintOf (field 4 r); place = placeOf (field 5 r) }) "op" rows;
-      clobs = each listRow "clob" rows;
-      edits = each (λ r. record { at = field 1 r; edit = editOf (field 2 r) (field 3 r) (field 4 r) (field 5 r) }) "edit" rows;
-    }
+sheetOf rows = sheetBy (λ kind. keep (λ r. eqb (field 0 r) (word kind)) rows)
 
 -- ---- what a sheet says
 

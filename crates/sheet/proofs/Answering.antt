@@ -11,7 +11,7 @@ use borrow.Author.Tests.{le-leb, lt-leb, leb-true}
 use Rattle.rules.specs.Rows.{cellsOf, sheetOk, rowsOf}
 use Rattle.rules.specs.Sheets.{isSome}
 use Rattle.sheet.specs.Answers.{asLexed}
-use Rattle.sheet.specs.Table.{Indexed}
+use Rattle.table.specs.Table.{Indexed}
 use Rattle.sheet.specs.declared.lexing.Lexed.{Lexed}
 use Rattle.sheet.specs.declared.lexing.Lexed.the-variants.{Rows, Broken}
 use Rattle.sheet.proofs.Numbers.{and-both}

@@ -7,81 +7,20 @@ use Prim.Native.Nat.{ℕ, zero, suc, _+_, _-_, _<_, _≤_}
 use native.Mathlib.Nat.{add-zero}
 use native.Mathlib.Numerals.{add-one}
 use native.Mathlib.Omega.{arith}
-use lib.ListN.{length, getD, take, drop, set, List·getD-map}
-use lib.Seq.{take-set-le, drop-set-add, take-suc, take-all}
+use lib.ListN.{length, getD, take, drop, set}
+use lib.Seq.{take-suc, take-all}
 use lib.Dec.{ltb, eqb}
 use borrow.Author.Tests.{lt-ltb, le-ltb, ltb-true, ltb-false, ne-eqb}
 use Rattle.laws.specs.Lists.{all, keep, from}
 use Rattle.laws.proofs.Cases.{by-eq, by-lt}
 use Rattle.rules.specs.Rows.{Kind, kinds, kindFrom, kind, first, begins, goesOn, rowOk, pairOk, pairsOk, sheetOk}
 use Rattle.rules.specs.Cells.{word}
-use Rattle.sheet.specs.Table.{flatten, kindsBegin, Holds, Rising, Indexed}
+use Rattle.table.specs.Table.{kindsBegin, Holds, Rising, Indexed}
 use Rattle.table.specs.Rows.{rowIn}
 use Rattle.sheet.proofs.Numbers.{and-both}
 use Rattle.sheet.proofs.Buffers.{section-store}
-use Rattle.sheet.proofs.Holding.{row-is}
-
--- ---- counting
-
--- a test that the first i pass and no other does
-pub counted : (p : List ℕ → Bool) (rs : List (List ℕ)) (i : ℕ) → i ≤ length rs → ((j : ℕ) → j < i → p (getD rs j []) ≡ true)
-    → ((j : ℕ) → i ≤ j → j < length rs → p (getD rs j []) ≡ false) → length (keep p rs) ≡ i
-unfolding keep
-counted p [] i h a b = omega arith
-counted p (r ∷ rs) zero h a b =
-    rw (b 0 (omega arith) (omega arith)) (counted p rs zero (omega arith) (λ j l. absurd (omega arith)) (λ j l u. b (suc j) (omega arith) (omega arith)))
-counted p (r ∷ rs) (suc i) h a b =
-    rw (a 0 (omega arith)) (ap suc (counted p rs i (omega arith) (λ j l. a (suc j) (omega arith)) (λ j l u. b (suc j) (omega arith) (omega arith))))
-
--- kinds that never fall from one row to the next never fall
-pub later : (rs : List (List ℕ)) → Rising rs → (i d : ℕ) → i + d < length rs → kind (getD rs i []) ≤ kind (getD rs (i + d) [])
-unfolding Rising
-later rs up i zero h = rw add-zero (omega arith)
-later rs up i (suc d) h =
-    let e : i + suc d ≡ i + d + 1 = omega arith in
-    rw e (omega (arith, later rs up i d (omega arith), up (i + d) (omega arith)))
-
--- ---- the list of beginnings
-
-unfoldable pub before : ℕ → List (List ℕ) → ℕ
-before k rs = length (keep (λ r. ltb (kind r) (100001 + k)) rs)
-
--- the list from 0 on, at k and as long as it is
-from-at : (a n k : ℕ) → k < n → getD (from a n) k 0 ≡ a + k
-unfolding from
-from-at a zero k h = absurd (omega arith)
-from-at a (suc n) zero h = sym (add-zero a)
-from-at a (suc n) (suc k) h = from-at (suc a) n k (omega arith) ∙ omega arith
-
-any-default : {A : Type 0} (l : List A) (j : ℕ) (a b : A) → j < length l → getD l j a ≡ getD l j b
-any-default [] j a b h = absurd (omega arith)
-any-default (x ∷ l) zero a b h = refl
-any-default (x ∷ l) (suc j) a b h = any-default l j a b (omega arith)
-
-long : (rs : List (List ℕ)) → length (kindsBegin rs) ≡ 14
-unfolding kindsBegin from
-long rs = refl
-
-pub begin-at : (rs : List (List ℕ)) (k : ℕ) → k < 14 → getD (kindsBegin rs) k 0 ≡ before k rs
-unfolding kindsBegin before
-begin-at rs k h =
-    any-default (kindsBegin rs) k 0 (before 0 rs) (rw (long rs) h)
-    ∙ List·getD-map (λ j. before j rs) (from 0 14) k 0 ∙ ap (λ (j : ℕ). before j rs) (from-at 0 14 k h ∙ omega arith)
-
--- ---- a store past the rows leaves them
-
-pub holds-store : {rs : List (List ℕ)} {t : List ℕ} → Holds rs t → (k v : ℕ) → Holds rs (set t (54616 + k) v)
-holds-store {rs} {t} h k v =
-    let e : 54616 + k ≡ 32768 + (21848 + k) = omega arith in
-    record {
-      cells-begin = take-set-le (length (flatten rs)) t (54616 + k) v (omega (arith, h .few-cells)) ∙ h .cells-begin;
-      starts-begin =
-          ap (λ (j : ℕ). take (length rs + 1) (drop 32768 (set t j v))) e
-          ∙ ap (take (length rs + 1)) (drop-set-add 32768 t (21848 + k) v)
-          ∙ take-set-le (length rs + 1) (drop 32768 t) (21848 + k) v (omega (arith, h .few-rows)) ∙ h .starts-begin;
-      few-cells = h .few-cells;
-      few-rows = h .few-rows;
-    }
+use Rattle.table.proofs.Holding.{row-is}
+use Rattle.table.proofs.Beginnings.{counted, later, before, long, begin-at, holds-store}
 
 -- ---- the loop
 

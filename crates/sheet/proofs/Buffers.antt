@@ -7,7 +7,7 @@ use native.Mathlib.Numerals.{add-one}
 use native.Mathlib.Omega.{arith}
 use lib.ListN.{length, take, drop, set, length-append, length-drop}
 use lib.Seq.{take-suc-set, drop-set-add}
-use Rattle.sheet.specs.Table.{flatten, offsets}
+use Rattle.table.specs.Table.{flatten, offsets}
 
 -- ---- filling
 

@@ -10,7 +10,5 @@ pub mod Buffers
 pub mod Reading
 pub mod Fitting
 pub mod Order
-pub mod Holding
 pub mod Beginnings
 pub mod Answering
-pub mod Kindred

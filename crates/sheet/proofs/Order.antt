@@ -11,7 +11,7 @@ use Rattle.laws.specs.Lists.{all}
 use Rattle.laws.proofs.Cases.{by-eq}
 use Rattle.rules.specs.Rows.{Kind, kinds, kindFrom, kind, first, begins, goesOn, rowOk, pairOk, pairsOk, sheetOk, reading}
 use Rattle.sheet.specs.Grammar.{fitsKind, beginsKind, goesOnKind, follows}
-use Rattle.sheet.specs.Table.{rowsFrom, rowsIn}
+use Rattle.table.specs.Table.{rowsFrom, rowsIn}
 use Rattle.table.specs.Rows.{rowIn}
 
 -- ---- kinds by their numbers

@@ -9,7 +9,7 @@ use lib.ListN.{length, take, drop, set, length-append, length-set}
 use lib.Seq.{take-set-le, drop-set-lt}
 use Rattle.rules.specs.Rows.{every, cut, cellsOf}
 use Rattle.sheet.specs.Answers.{asLexed}
-use Rattle.sheet.specs.Table.{flatten, offsets, Holds}
+use Rattle.table.specs.Table.{flatten, offsets, Holds}
 use Rattle.sheet.specs.declared.lexing.Lexed.{Lexed}
 use Rattle.sheet.specs.declared.lexing.Lexed.the-variants.{Rows, Broken}
 use Rattle.sheet.proofs.Lists.{drop-end}

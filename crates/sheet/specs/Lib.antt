@@ -1,4 +1,3 @@
 pub mod Packing
 pub mod Answers
-pub mod Table
 pub mod Grammar

@@ -2,7 +2,7 @@
 ghost use mathlib.Core.Path.{_≡_};
 ghost use Rattle.rules.specs.Rows.{sheetOk};
 ghost use Rattle.sheet.specs.Grammar.{beginsKind, goesOnKind, follows};
-ghost use Rattle.sheet.specs.Table.{rowsIn};
+ghost use Rattle.table.specs.Table.{rowsIn};
 use crate::shapes::row_ok;
 use crate::words::BLOCK;
 use crate::words::CLOB;

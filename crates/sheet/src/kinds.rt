@@ -7,7 +7,7 @@ ghost use Prim.Native.Nat.{ℕ, _+_, _<_, _≤_};
 ghost use lib.Dec.{ltb};
 ghost use lib.ListN.{length};
 ghost use Rattle.rules.specs.Rows.{kind};
-ghost use Rattle.sheet.specs.Table.{Holds, Rising, Indexed};
+ghost use Rattle.table.specs.Table.{Holds, Rising, Indexed};
 ghost use Rattle.table.specs.Rows.{rowIn};
 use crate::words::SLOTS;
 use bits::tables::read_u32;

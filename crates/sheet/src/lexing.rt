@@ -6,7 +6,7 @@ ghost use Prim.Native.Nat.{ℕ, _+_, _≤_};
 ghost use lib.ListN.{length, drop};
 ghost use Rattle.rules.specs.Rows.{cellsOf};
 ghost use Rattle.sheet.specs.Answers.{upTo, fieldAt, asLexed};
-ghost use Rattle.sheet.specs.Table.{Holds};
+ghost use Rattle.table.specs.Table.{Holds};
 use crate::fields::Num;
 use table::STARTS;
 

@@ -9,7 +9,7 @@ ghost use lib.Dec.{leb};
 ghost use lib.ListN.{length};
 ghost use Rattle.rules.specs.Rows.{rowsOf};
 ghost use Rattle.rules.specs.Sheets.{isSome};
-ghost use Rattle.sheet.specs.Table.{Indexed};
+ghost use Rattle.table.specs.Table.{Indexed};
 use lexing::Lexed;
 use table::LENGTH;
 

@@ -6,8 +6,8 @@ use Prim.Native.Nat.{ℕ}
 use native.Mathlib.Omega.{arith}
 use lib.ListN.{length}
 use Rattle.rules.specs.Rows.{cellsOf, sheetOk}
-use Rattle.sheet.specs.Table.{Holds}
-use Rattle.sheet.proofs.Holding.{sheet-is}
+use Rattle.table.specs.Table.{Holds}
+use Rattle.table.proofs.Holding.{sheet-is}
 use Rattle.sheet.proofs.Beginnings.{sheet-rises}
 use Rattle.sheet.proofs.Answering.{are-rows, no-rows, rows-long, rows-broken, rows-not, rows-are, too-short, refused, accepted}
 use borrow.Author.Needs.{needs}

@@ -7,7 +7,7 @@ use Rattle.accept.proofs.blocks.in_succs_of.Tie as tie
 use Rattle.accept.proofs.blocks.in_succs_of.Reads as reads
 use Rattle.accept.proofs.blocks.in_succs_of.Lts as lts
 use Rattle.accept.proofs.graph.succs.Reads as succs-reads
-use Rattle.accept.proofs.lists.is_in.Reads as is-in-reads
+use Rattle.names.proofs.lists.is_in.Reads as is-in-reads
 
 abbrev Inv-loop : tie.InvT-loop
 Inv-loop t b list i₀ i = Unit {0}

@@ -6,8 +6,8 @@ use Rattle.accept.proofs.edits.shared_units.Statement.{statement}
 use Rattle.accept.proofs.edits.shared_units.Tie as tie
 use Rattle.accept.proofs.edits.shared_units.Reads as reads
 use Rattle.accept.proofs.edits.shared_units.Lts as lts
-use Rattle.accept.proofs.lists.with_all.Reads as with-all-reads
-use Rattle.accept.proofs.lists.with_seen.Reads as with-seen-reads
+use Rattle.names.proofs.lists.with_all.Reads as with-all-reads
+use Rattle.names.proofs.lists.with_seen.Reads as with-seen-reads
 use Rattle.bits.proofs.sets.NumberSet.empty.Reads as empty-reads
 use Rattle.table.proofs.rows.count.Reads as count-reads
 use Rattle.table.proofs.view.units.Reads as units-reads

@@ -6,7 +6,7 @@ use native.Mathlib.Omega.{arith}
 use borrow.Author.Needs.{needs}
 use Rattle.rules.specs.Rows.{kind, first, rowOk, sheetOk}
 use Rattle.sheet.specs.Grammar.{follows}
-use Rattle.sheet.specs.Table.{rowsFrom, rowsIn}
+use Rattle.table.specs.Table.{rowsFrom, rowsIn}
 use Rattle.table.specs.Rows.{rowIn}
 use Rattle.sheet.proofs.Order.{left, no-rows, not-slots, from-slots, row-not, pair-not, row-more, all-left}
 use Rattle.sheet.proofs.grammar.sheet_ok.Statement.{statement}

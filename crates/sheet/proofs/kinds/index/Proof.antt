@@ -2,7 +2,7 @@ use mathlib.Core.Path.{_≡_, refl, sym, _∙_}
 use mathlib.Core.List.{List}
 use Prim.Native.Nat.{ℕ, _≤_, _<_, _+_, _-_}
 use Rattle.rules.specs.Rows.{kind}
-use Rattle.sheet.specs.Table.{Holds, Rising}
+use Rattle.table.specs.Table.{Holds, Rising}
 use Rattle.table.specs.Rows.{rowIn}
 use Rattle.sheet.proofs.Beginnings.{Indexing, nothing-yet, row-more, kind-more, all-kinds, is-before, not-before}
 use native.Mathlib.Omega.{arith}

@@ -1,0 +1,67 @@
+-- The representation: row i of the sheet is the part of the cells from its start to the next one. Assumes nothing.
+use mathlib.Core.Path.{_≡_, refl, sym, _∙_, ap, subst}
+use mathlib.Core.List.{List, [], _∷_, _++_, append-assoc}
+use Prim.Native.Nat.{ℕ, zero, suc, _+_, _-_, _<_, _≤_}
+use native.Mathlib.Nat.{add-assoc}
+use native.Mathlib.Numerals.{add-one}
+use native.Mathlib.Omega.{arith}
+use lib.ListN.{length, getD, take, drop, length-append, take-append-drop, drop-of-length-le}
+use lib.Seq.{getD-take, getD-drop, drop-at, take-append-seam, drop-cons}
+use Rattle.table.specs.Table.{flatten, offsets, Holds, rowsFrom, rowsIn}
+use Rattle.table.specs.Rows.{rowIn}
+
+first-offset : (a : ℕ) (rs : List (List ℕ)) → getD (offsets a rs) 0 0 ≡ a
+unfolding offsets
+first-offset a [] = refl
+first-offset a (r ∷ rs) = refl
+
+-- a row ends as far on as it is long
+offset-next : (rs : List (List ℕ)) (a i : ℕ) → i < length rs → getD (offsets a rs) (suc i) 0 ≡ getD (offsets a rs) i 0 + length (getD rs i [])
+unfolding offsets
+offset-next [] a i h = absurd (omega arith)
+offset-next (r ∷ rs) a zero h = first-offset (a + length r) rs
+offset-next (r ∷ rs) a (suc i) h = offset-next rs (a + length r) i (omega arith)
+
+row-at : (rs : List (List ℕ)) (pre tl : List ℕ) (a i : ℕ) → length pre ≡ a → i < length rs
+    → take (length (getD rs i [])) (drop (getD (offsets a rs) i 0) (pre ++ (flatten rs ++ tl))) ≡ getD rs i []
+unfolding offsets flatten
+row-at [] pre tl a i e h = absurd (omega arith)
+row-at (r ∷ rs) pre tl a zero e h = rw (drop-at pre _ a e, append-assoc, take-append-seam)
+row-at (r ∷ rs) pre tl a (suc i) e h =
+    subst (λ (l : List ℕ). take (length (getD rs i [])) (drop (getD (offsets (a + length r) rs) i 0) l) ≡ getD rs i [])
+    (rw (append-assoc, append-assoc)) (row-at rs (pre ++ r) tl (a + length r) i (rw (length-append, e)) (omega arith))
+
+module _ {rs : List (List ℕ)} {t : List ℕ} (h : Holds rs t) where
+  cells-split : flatten rs ++ drop (length (flatten rs)) t ≡ t
+  cells-split = ap (λ (l : List ℕ). l ++ drop (length (flatten rs)) t) (sym (h .cells-begin)) ∙ take-append-drop (length (flatten rs)) t
+
+  pub start-is : (i : ℕ) → i ≤ length rs → getD t (32768 + i) 0 ≡ getD (offsets 0 rs) i 0
+  start-is i l =
+      sym (getD-take (length rs + 1) (drop 32768 t) i 0 (omega arith) ∙ getD-drop 32768 t i 0)
+      ∙ ap (λ (x : List ℕ). getD x i 0) (h .starts-begin)
+
+  pub width-is : (i : ℕ) → i < length rs → getD t (32768 + i + 1) 0 ≡ getD t (32768 + i) 0 + length (getD rs i [])
+  width-is i l =
+      ap (λ (j : ℕ). getD t j 0) (add-assoc 32768 i 1)
+      ∙ start-is (i + 1) (omega arith) ∙ ap (λ (j : ℕ). getD (offsets 0 rs) j 0) (add-one i) ∙ offset-next rs 0 i l
+      ∙ ap (λ (x : ℕ). x + length (getD rs i [])) (sym (start-is i (omega arith)))
+
+  -- THE REPRESENTATION
+  pub row-is : (i : ℕ) → i < length rs → rowIn t i ≡ getD rs i []
+  row-is i l =
+      let w : getD t (32768 + i + 1) 0 - getD t (32768 + i) 0 ≡ length (getD rs i []) = omega (arith, width-is i l) in
+      ap (λ (n : ℕ). take n (drop (getD t (32768 + i) 0) t)) w
+      ∙ ap (λ (a : ℕ). take (length (getD rs i [])) (drop a t)) (start-is i (omega arith))
+      ∙ ap (λ (l : List ℕ). take (length (getD rs i [])) (drop (getD (offsets 0 rs) i 0) l)) (sym cells-split)
+      ∙ row-at rs [] (drop (length (flatten rs)) t) 0 i refl l
+
+  rows-are : (m i : ℕ) → i + m ≡ length rs → rowsFrom t i m ≡ drop i rs
+  unfolding rowsFrom
+  rows-are zero i e = sym (drop-of-length-le rs {i = i} (omega arith))
+  rows-are (suc m) i e =
+      rw (row-is i (omega arith), rows-are m (i + 1) (omega arith), add-one) (sym (drop-cons rs i [] (omega arith)))
+
+  -- the table read back is the sheet
+  pub sheet-is : (n : ℕ) → length rs ≡ n → rowsIn t n ≡ rs
+  unfolding rowsIn
+  sheet-is n e = rows-are n 0 (omega arith)

@@ -1,0 +1,29 @@
+-- Edits and operand places in cells, as the optimizer and the sweep alter them: four cells an edit, kind, to, from and value, and one a place.
+use mathlib.Core.List.{List, [], _∷_, map}
+use Prim.Native.Nat.{ℕ, _+_, _*_}
+use lib.ListN.{getD, set}
+use Rattle.laws.specs.Lists.{from}
+use Rattle.entity.specs.declared.forms.Place.{Place}
+use Rattle.entity.specs.declared.forms.Edit.{Edit}
+use Rattle.rules.specs.Sheet.{placeOf, editOf}
+use Rattle.rules.specs.Answer.{editCells}
+
+-- edit j; and the first n
+unfoldable pub editIn : List ℕ → ℕ → Edit
+editIn cells j = editOf (getD cells (j * 4) 0) (getD cells (j * 4 + 1) 0) (getD cells (j * 4 + 2) 0) (getD cells (j * 4 + 3) 0)
+
+unfoldable pub editsIn : List ℕ → ℕ → List Edit
+editsIn cells n = map (editIn cells) (from 0 n)
+
+-- edit j replaced by e
+unfoldable pub withEdit : List ℕ → ℕ → Edit → List ℕ
+withEdit cells j e =
+    let cs = editCells e in
+    set (set (set (set cells (j * 4) (getD cs 0 0)) (j * 4 + 1) (getD cs 1 0)) (j * 4 + 2) (getD cs 2 0)) (j * 4 + 3) (getD cs 3 0)
+
+-- place j; and the first n
+unfoldable pub placeIn : List ℕ → ℕ → Place
+placeIn cells j = placeOf (getD cells j 0)
+
+unfoldable pub placesIn : List ℕ → ℕ → List Place
+placesIn cells n = map (placeIn cells) (from 0 n)
