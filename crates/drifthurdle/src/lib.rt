@@ -1,5 +1,5 @@
 // The call for host compilers: a sheet's bytes, level, sweep flag and output buffer. It optimises, then sweeps if the flag is 1, and returns how
-// many bytes it wrote, or minus a refusal number, and then it wrote none.
+// many bytes it wrote, or minus a refusal number, and then it wrote none. `clean` is the same for callers in Rattle: an enum instead of a number.
 use accept::blocks::blocks_hold;
 use accept::edits::edits_hold;
 use accept::operands::operands_hold;
@@ -26,18 +26,9 @@ enum Checked {
     Refused(Refusal),
 }
 
-// Minus the refusal's number.
-fn refused(r: Refusal) -> i64 {
-    match r {
-        Refusal::Rows => -1,
-        Refusal::Limits => -2,
-        Refusal::Names => -3,
-        Refusal::Blocks => -4,
-        Refusal::Operands => -5,
-        Refusal::Edits => -6,
-        Refusal::Call => -7,
-        Refusal::Room => -8,
-    }
+pub enum Outcome {
+    Refused(Refusal),
+    Written(usize),
 }
 
 // The checks in the table's order; the index is built once the limits hold.
@@ -89,17 +80,16 @@ fn load_places(t: &[u32], places: &mut [u32]) {
 }
 
 // The answer is measured first, and written only if it fits.
-fn fitted(t: &[u32], edits: &[u32], places: &[u32], counts: &[u32], out: &mut [u8]) -> i64 {
+fn fitted(t: &[u32], edits: &[u32], places: &[u32], counts: &[u32], out: &mut [u8]) -> Outcome {
     let mut none = [0u8; 0];
     let n = render(t, edits, places, counts, &mut none);
     if out.len() < n {
-        return refused(Refusal::Room);
+        return Outcome::Refused(Refusal::Room);
     }
-    let written = render(t, edits, places, counts, out);
-    (written % 0x1_0000_0000) as i64
+    Outcome::Written(render(t, edits, places, counts, out))
 }
 
-fn cleaned(t: &[u32], level: Level, swept: bool, out: &mut [u8]) -> i64 {
+fn cleaned(t: &[u32], level: Level, swept: bool, out: &mut [u8]) -> Outcome {
     let mut edits = [0u32; 4096];
     let mut places = [0u32; 2048];
     let mut counts = [0u32; COUNTS];
@@ -113,24 +103,45 @@ fn cleaned(t: &[u32], level: Level, swept: bool, out: &mut [u8]) -> i64 {
     fitted(t, &edits, &places, &counts, out)
 }
 
-fn clean(sheet: &[u8], level: Level, swept: bool, out: &mut [u8]) -> i64 {
+fn read_and_clean(sheet: &[u8], level: Level, swept: bool, out: &mut [u8]) -> Outcome {
     let mut t = [0u32; table::LENGTH];
     if !read(sheet, &mut t) {
-        return refused(Refusal::Rows);
+        return Outcome::Refused(Refusal::Rows);
     }
     match check(&mut t) {
-        Checked::Refused(r) => refused(r),
+        Checked::Refused(r) => Outcome::Refused(r),
         Checked::Accepted => cleaned(&t, level, swept, out),
+    }
+}
+
+pub fn clean(sheet: &[u8], level: u32, sweep: u32, out: &mut [u8]) -> Outcome {
+    let FoundLevel::At(l) = Level::of(level) else {
+        return Outcome::Refused(Refusal::Call);
+    };
+    if 1 < sweep {
+        return Outcome::Refused(Refusal::Call);
+    }
+    read_and_clean(sheet, l, sweep == 1, out)
+}
+
+// Minus the refusal's number.
+fn refused(r: Refusal) -> i64 {
+    match r {
+        Refusal::Rows => -1,
+        Refusal::Limits => -2,
+        Refusal::Names => -3,
+        Refusal::Blocks => -4,
+        Refusal::Operands => -5,
+        Refusal::Edits => -6,
+        Refusal::Call => -7,
+        Refusal::Room => -8,
     }
 }
 
 #[no_mangle]
 pub extern "C" fn drifthurdle_clean(sheet: &[u8], level: u32, sweep: u32, out: &mut [u8]) -> i64 {
-    let FoundLevel::At(l) = Level::of(level) else {
-        return refused(Refusal::Call);
-    };
-    if 1 < sweep {
-        return refused(Refusal::Call);
+    match clean(sheet, level, sweep, out) {
+        Outcome::Refused(r) => refused(r),
+        Outcome::Written(n) => (n % 0x1_0000_0000) as i64,
     }
-    clean(sheet, l, sweep == 1, out)
 }
