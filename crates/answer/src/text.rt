@@ -29,8 +29,19 @@ fn scale(n: u32) -> u32 {
     p
 }
 
-// A number in decimal, no leading zero.
+// A number in decimal, no leading zero. Most have one digit or two.
 pub fn put_number(out: &mut [u8], at: usize, n: u32) -> usize {
+    if n < 10 {
+        return put(out, at, digit(n));
+    }
+    if n < 100 {
+        let next = put(out, at, digit(n / 10));
+        return put(out, next, digit(n));
+    }
+    put_digits(out, at, n)
+}
+
+fn put_digits(out: &mut [u8], at: usize, n: u32) -> usize {
     let mut p = scale(n);
     let mut next = at;
     while 0 < p {

@@ -20,12 +20,16 @@ use entity::sets::UnitSet;
 use table::index::op_rows;
 use table::rows::Kind;
 use table::rows::count;
+use table::rows::row_of;
 use table::view::Operand;
 use table::view::clobbers;
+use table::view::constraint_of;
 use table::view::group_class;
 use table::view::group_regs;
 use table::view::group_values;
+use table::view::kind_of;
 use table::view::operand_at;
+use table::view::place_of;
 use table::view::units;
 
 // Which definitions a pass over the operands takes.
@@ -79,9 +83,7 @@ fn class_at(t: &[u32], i: Inst, k: OperandIndex) -> RegClass {
     let to = rows.to;
     if k.0 < to {
         if from < to - k.0 {
-            let o = operand_at(t, OperandRow(from + k.0));
-            let c = o.constraint;
-            return class_of(c);
+            return class_of(constraint_at(t, OperandRow(from + k.0)));
         }
     }
     RegClass(0)
@@ -122,29 +124,45 @@ fn define_group(t: &[u32], rec: &mut [u32; LENGTH], b: Block, o: Operand, g: Val
     }
 }
 
+// The fields of row n of the operands.
+pub fn kind_at(t: &[u32], n: OperandRow) -> OperandKind {
+    let row = row_of(t, Kind::OP, n.0);
+    kind_of(read_u32(row, 2), read_u32(row, 3))
+}
+
+pub fn constraint_at(t: &[u32], n: OperandRow) -> Constraint {
+    constraint_of(read_u32(row_of(t, Kind::OP, n.0), 4))
+}
+
+pub fn place_at(t: &[u32], n: OperandRow) -> Place {
+    place_of(read_u32(row_of(t, Kind::OP, n.0), 5))
+}
+
+// A number less another, 0 where that is greater.
+pub fn less(a: u32, b: u32) -> u32 {
+    if b <= a { a - b } else { 0 }
+}
+
 fn define_operand(t: &[u32], rec: &mut [u32; LENGTH], b: Block, pass: Pass, n: OperandRow) {
-    let o = operand_at(t, n);
-    let kind = o.kind;
-    let place = o.place;
-    match kind {
+    match kind_at(t, n) {
         OperandKind::Def(v) => {
             if pass.other {
-                define(t, rec, b, v, place);
+                define(t, rec, b, v, place_at(t, n));
             }
         }
         OperandKind::EarlyDef(v) => {
             if pass.early {
-                define(t, rec, b, v, place);
+                define(t, rec, b, v, place_at(t, n));
             }
         }
         OperandKind::DefGroup(g) => {
             if pass.other {
-                define_group(t, rec, b, o, g);
+                define_group(t, rec, b, operand_at(t, n), g);
             }
         }
         OperandKind::EarlyDefGroup(g) => {
             if pass.early {
-                define_group(t, rec, b, o, g);
+                define_group(t, rec, b, operand_at(t, n), g);
             }
         }
         OperandKind::Use(_) => {}
@@ -204,14 +222,11 @@ fn add_group(t: &[u32], own: UnitSet, o: Operand, g: ValueGroup) -> UnitSet {
 }
 
 fn add_operand(t: &[u32], own: UnitSet, n: OperandRow) -> UnitSet {
-    let o = operand_at(t, n);
-    let kind = o.kind;
-    let place = o.place;
-    match kind {
-        OperandKind::Def(_) => add_place(t, own, place),
-        OperandKind::EarlyDef(_) => add_place(t, own, place),
-        OperandKind::DefGroup(g) => add_group(t, own, o, g),
-        OperandKind::EarlyDefGroup(g) => add_group(t, own, o, g),
+    match kind_at(t, n) {
+        OperandKind::Def(_) => add_place(t, own, place_at(t, n)),
+        OperandKind::EarlyDef(_) => add_place(t, own, place_at(t, n)),
+        OperandKind::DefGroup(g) => add_group(t, own, operand_at(t, n), g),
+        OperandKind::EarlyDefGroup(g) => add_group(t, own, operand_at(t, n), g),
         OperandKind::Use(_) => own,
         OperandKind::UseGroup(_) => own,
         OperandKind::NonAllocatable => own,

@@ -1,14 +1,17 @@
 // An instruction in the optimising walk, with its folds, and in the preparing walk.
 use crate::defs::Pass;
 use crate::defs::clobber;
+use crate::defs::constraint_at;
 use crate::defs::define_all;
+use crate::defs::kind_at;
+use crate::defs::less;
+use crate::defs::place_at;
 use crate::edit::STACK_USE;
 use crate::edit::tally;
 use crate::holders::WORDS;
 use crate::holders::in_memory;
 use crate::holders::lowest_holding;
 use crate::record::LENGTH;
-use bits::sets::NumberSet;
 use bits::tables::store_u32;
 use entity::forms::Constraint;
 use entity::forms::OperandKind;
@@ -16,46 +19,49 @@ use entity::forms::Place;
 use entity::numbers::Block;
 use entity::numbers::Inst;
 use entity::numbers::OperandRow;
+use entity::numbers::Value;
 use entity::sets::FoundReg;
 use table::edits::place_cell;
+use table::index::Range;
 use table::index::op_rows;
-use table::view::Operand;
-use table::view::operand_at;
 
-fn add_reused(s: NumberSet, o: Operand) -> NumberSet {
-    let c = o.constraint;
+fn reuses(c: Constraint, k: u32) -> bool {
     match c {
-        Constraint::Class(_) => s,
-        Constraint::Fixed(_) => s,
-        Constraint::Reuse(k) => s.insert(k.0),
+        Constraint::Class(_) => false,
+        Constraint::Fixed(_) => false,
+        Constraint::Reuse(x) => x.0 == k,
     }
 }
 
-// The indices of the operands of instruction i that are reused.
-fn reused_set(t: &[u32], i: Inst) -> NumberSet {
-    let rows = op_rows(t, i);
+// Operand k of the instruction whose operands these rows are is reused.
+fn reused(t: &[u32], rows: Range, k: u32) -> bool {
     let to = rows.to;
-    let mut s = NumberSet::empty();
     let mut n = rows.from;
     while n < to {
-        s = add_reused(s, operand_at(t, OperandRow(n)));
+        if reuses(constraint_at(t, OperandRow(n)), k) {
+            return true;
+        }
         n += 1;
     }
-    s
+    false
 }
 
-// The register that a `use` in memory, of class constraint and not reused, is folded to.
-fn fold_to(t: &[u32], rec: &[u32; LENGTH], classes: &[u64; WORDS], o: Operand) -> FoundReg {
-    let kind = o.kind;
-    let OperandKind::Use(v) = kind else {
-        return FoundReg::Nothing;
-    };
-    let place = o.place;
-    if !in_memory(t, place) {
+// The register that a `use` of v in memory, of class constraint and not reused, is folded to.
+fn fold_to(
+    t: &[u32],
+    rec: &[u32; LENGTH],
+    classes: &[u64; WORDS],
+    rows: Range,
+    n: OperandRow,
+    v: Value,
+) -> FoundReg {
+    if !in_memory(t, place_at(t, n)) {
         return FoundReg::Nothing;
     }
-    let constraint = o.constraint;
-    match constraint {
+    if reused(t, rows, less(n.0, rows.from)) {
+        return FoundReg::Nothing;
+    }
+    match constraint_at(t, n) {
         Constraint::Class(c) => lowest_holding(t, rec, classes, c, v),
         Constraint::Fixed(_) => FoundReg::Nothing,
         Constraint::Reuse(_) => FoundReg::Nothing,
@@ -68,13 +74,13 @@ fn fold(
     classes: &[u64; WORDS],
     places: &mut [u32],
     counts: &mut [u32],
+    rows: Range,
     n: OperandRow,
-    reused: bool,
 ) {
-    if reused {
+    let OperandKind::Use(v) = kind_at(t, n) else {
         return;
-    }
-    match fold_to(t, rec, classes, operand_at(t, n)) {
+    };
+    match fold_to(t, rec, classes, rows, n, v) {
         FoundReg::At(r) => {
             store_u32(places, n.0 as usize, place_cell(Place::Reg(r)));
             tally(counts, STACK_USE);
@@ -93,12 +99,9 @@ fn fold_all(
 ) {
     let rows = op_rows(t, i);
     let to = rows.to;
-    let from = rows.from;
-    let skip = reused_set(t, i);
-    let mut n = from;
+    let mut n = rows.from;
     while n < to {
-        let reused = skip.contains(n - from);
-        fold(t, rec, classes, places, counts, OperandRow(n), reused);
+        fold(t, rec, classes, places, counts, rows, OperandRow(n));
         n += 1;
     }
 }

@@ -2,10 +2,10 @@ use borrow.Author.Needs.{needs}
 use mathlib.Core.Path.{_≡_}
 use Prim.Native.Nat.{ℕ, _+_, _-_, _*_, _<_, _≤_}
 use lib.ListN.{length, getD}
-use Rattle.answer.proofs.text.put_number.Statement.{statement}
-use Rattle.answer.proofs.text.put_number.Tie as tie
-use Rattle.answer.proofs.text.put_number.Reads as reads
-use Rattle.answer.proofs.text.put_number.Lts as lts
+use Rattle.answer.proofs.text.put_digits.Statement.{statement}
+use Rattle.answer.proofs.text.put_digits.Tie as tie
+use Rattle.answer.proofs.text.put_digits.Reads as reads
+use Rattle.answer.proofs.text.put_digits.Lts as lts
 use Rattle.answer.proofs.text.digit.Reads as digit-reads
 use Rattle.answer.proofs.text.put.Reads as put-reads
 use Rattle.answer.proofs.text.scale.Reads as scale-reads
@@ -52,8 +52,8 @@ same-length c = search needs
 returns : tie.Need-returns Inv-loop μ-loop
 returns c = search needs
 
-pub put-number-spec : {M : Type 1} → statement M
-put-number-spec =
+pub put-digits-spec : {M : Type 1} → statement M
+put-digits-spec =
     tie.close
     (tie.spec
     Inv-loop
