@@ -1,8 +1,14 @@
 // Refusal 5: the operand rules. What an operand names is there, as 3 holds.
+ghost use mathlib.Core.Path.{_≡_};
+ghost use Rattle.rules.specs.Sheet.{Sheet, is};
+ghost use Rattle.rules.specs.Accept.{samePlace, operand, inClass, classOf, classFor, reuseHolds, constraintHolds, fixedHolds, beginsGroup, groupHolds, operandsHold};
+ghost use Rattle.table.specs.Sheet.{sheetIn};
+ghost use Rattle.table.specs.Index.{Ready};
+ghost use Rattle.table.specs.View.{groupRow};
+ghost use Rattle.accept.specs.Operands.{asRow, operandFound, classFound, isClass, isFixed, kindsMatch, reusedClass, reuses, groupIs, groupAt, operandHolds};
 use entity::forms::Constraint;
 use entity::forms::OperandKind;
 use entity::forms::Place;
-use entity::numbers::Inst;
 use entity::numbers::OperandIndex;
 use entity::numbers::OperandRow;
 use entity::numbers::PhysReg;
@@ -22,7 +28,7 @@ use table::view::members;
 use table::view::operand_at;
 
 pub enum FoundOperand {
-    At(OperandRow),
+    At(Operand),
     Nothing,
 }
 
@@ -31,7 +37,9 @@ pub enum FoundClass {
     Nothing,
 }
 
-fn same_place(p: Place, q: Place) -> bool {
+fn same_place(p: Place, q: Place) -> bool
+    ensures { λ x. ⌜ x ≡ samePlace p q ⌝ }
+{
     match p {
         Place::Reg(r) => match q {
             Place::Reg(s) => r.0 == s.0,
@@ -44,19 +52,23 @@ fn same_place(p: Place, q: Place) -> bool {
     }
 }
 
-// Operand k of an instruction.
-fn operand(t: &[u32], i: Inst, k: OperandIndex) -> FoundOperand {
-    let rows = op_rows(t, i);
+// Operand k of the instruction of an operand.
+fn operand(t: &[u32], o: Operand, k: OperandIndex) -> FoundOperand
+    ensures { λ x. ⌜ (Ready (now (t .entry)) → x ≡ operandFound (operand (sheetIn (now (t .entry))) (asRow o) (k .0))) ⌝ }
+{
+    let rows = op_rows(t, o.at);
     if rows.to <= rows.from {
         return FoundOperand::Nothing;
     }
     if rows.to - rows.from <= k.0 {
         return FoundOperand::Nothing;
     }
-    FoundOperand::At(OperandRow(rows.from + k.0))
+    FoundOperand::At(operand_at(t, OperandRow(rows.from + k.0)))
 }
 
-fn in_class(t: &[u32], c: RegClass, p: Place) -> bool {
+fn in_class(t: &[u32], c: RegClass, p: Place) -> bool
+    ensures { λ x. ⌜ x ≡ inClass (sheetIn (now (t .entry))) (c .0) p ⌝ }
+{
     match p {
         Place::Reg(r) => is_in(r.0, members(t, c)),
         Place::Slot(_) => class_slots(t, c),
@@ -64,7 +76,9 @@ fn in_class(t: &[u32], c: RegClass, p: Place) -> bool {
 }
 
 // The class of a class constraint.
-fn class_of(c: Constraint) -> FoundClass {
+fn class_of(c: Constraint) -> FoundClass
+    ensures { λ x. ⌜ ((sh : Sheet) → x ≡ classFound (classOf sh c)) ⌝ }
+{
     match c {
         Constraint::Class(c) => FoundClass::At(c),
         Constraint::Fixed(_) => FoundClass::Nothing,
@@ -72,31 +86,32 @@ fn class_of(c: Constraint) -> FoundClass {
     }
 }
 
-// The class of the operand at a row's constraint.
-fn class_at(t: &[u32], n: OperandRow) -> FoundClass {
-    let u = operand_at(t, n);
+// The class of operand k of the instruction of an operand.
+fn reused_class(t: &[u32], o: Operand, k: OperandIndex) -> FoundClass
+    ensures { λ x. ⌜ (Ready (now (t .entry)) → x ≡ classFound (reusedClass (sheetIn (now (t .entry))) (asRow o) (k .0))) ⌝ }
+{
+    let FoundOperand::At(u) = operand(t, o, k) else {
+        return FoundClass::Nothing;
+    };
     let c = u.constraint;
     class_of(c)
 }
 
-// The class of operand k of an instruction.
-fn reused_class(t: &[u32], i: Inst, k: OperandIndex) -> FoundClass {
-    match operand(t, i, k) {
-        FoundOperand::At(n) => class_at(t, n),
-        FoundOperand::Nothing => FoundClass::Nothing,
-    }
-}
-
 // The class of an operand: for a reuse, the reused operand's.
-pub fn class_for(t: &[u32], i: Inst, c: Constraint) -> FoundClass {
+fn class_for(t: &[u32], o: Operand) -> FoundClass
+    ensures { λ x. ⌜ (Ready (now (t .entry)) → x ≡ classFound (classFor (sheetIn (now (t .entry))) (asRow o))) ⌝ }
+{
+    let c = o.constraint;
     match c {
         Constraint::Class(c) => FoundClass::At(c),
         Constraint::Fixed(_) => FoundClass::Nothing,
-        Constraint::Reuse(k) => reused_class(t, i, k),
+        Constraint::Reuse(k) => reused_class(t, o, k),
     }
 }
 
-fn is_class(c: Constraint) -> bool {
+fn is_class(c: Constraint) -> bool
+    ensures { λ x. ⌜ x ≡ isClass c ⌝ }
+{
     match c {
         Constraint::Class(_) => true,
         Constraint::Fixed(_) => false,
@@ -104,7 +119,9 @@ fn is_class(c: Constraint) -> bool {
     }
 }
 
-fn is_use(k: OperandKind) -> bool {
+fn is_use(k: OperandKind) -> bool
+    ensures { λ x. ⌜ x ≡ is "use" k ⌝ }
+{
     match k {
         OperandKind::Use(_) => true,
         OperandKind::Def(_) => false,
@@ -116,7 +133,9 @@ fn is_use(k: OperandKind) -> bool {
     }
 }
 
-fn is_use_group(k: OperandKind) -> bool {
+fn is_use_group(k: OperandKind) -> bool
+    ensures { λ x. ⌜ x ≡ is "useg" k ⌝ }
+{
     match k {
         OperandKind::UseGroup(_) => true,
         OperandKind::Def(_) => false,
@@ -129,7 +148,9 @@ fn is_use_group(k: OperandKind) -> bool {
 }
 
 // A `def` reuses a `use`, and a `defg` a `useg`.
-fn kinds_match(k: OperandKind, u: OperandKind) -> bool {
+fn kinds_match(k: OperandKind, u: OperandKind) -> bool
+    ensures { λ x. ⌜ x ≡ kindsMatch k u ⌝ }
+{
     match k {
         OperandKind::Def(_) => is_use(u),
         OperandKind::DefGroup(_) => is_use_group(u),
@@ -141,7 +162,9 @@ fn kinds_match(k: OperandKind, u: OperandKind) -> bool {
     }
 }
 
-fn reuse_holds(o: Operand, u: Operand) -> bool {
+fn reuse_holds(o: Operand, u: Operand) -> bool
+    ensures { λ x. ⌜ ((sh : Sheet) → x ≡ reuseHolds sh (asRow o) (asRow u)) ⌝ }
+{
     let k = o.kind;
     let l = u.kind;
     if !kinds_match(k, l) {
@@ -156,14 +179,19 @@ fn reuse_holds(o: Operand, u: Operand) -> bool {
     same_place(q, p)
 }
 
-fn reuses(t: &[u32], o: Operand, k: OperandIndex) -> bool {
-    match operand(t, o.at, k) {
-        FoundOperand::At(n) => reuse_holds(o, operand_at(t, n)),
-        FoundOperand::Nothing => false,
-    }
+// Operand o may reuse operand k of its instruction.
+fn reuses(t: &[u32], o: Operand, k: OperandIndex) -> bool
+    ensures { λ x. ⌜ (Ready (now (t .entry)) → x ≡ reuses (sheetIn (now (t .entry))) (asRow o) (k .0)) ⌝ }
+{
+    let FoundOperand::At(u) = operand(t, o, k) else {
+        return false;
+    };
+    reuse_holds(o, u)
 }
 
-fn constraint_holds(t: &[u32], o: Operand) -> bool {
+fn constraint_holds(t: &[u32], o: Operand) -> bool
+    ensures { λ x. ⌜ (Ready (now (t .entry)) → x ≡ constraintHolds (sheetIn (now (t .entry))) (asRow o)) ⌝ }
+{
     let c = o.constraint;
     let p = o.place;
     match c {
@@ -173,7 +201,9 @@ fn constraint_holds(t: &[u32], o: Operand) -> bool {
     }
 }
 
-fn is_fixed(c: Constraint) -> bool {
+fn is_fixed(c: Constraint) -> bool
+    ensures { λ x. ⌜ x ≡ isFixed c ⌝ }
+{
     match c {
         Constraint::Class(_) => false,
         Constraint::Fixed(_) => true,
@@ -181,7 +211,9 @@ fn is_fixed(c: Constraint) -> bool {
     }
 }
 
-fn fixed_holds(o: Operand) -> bool {
+fn fixed_holds(o: Operand) -> bool
+    ensures { λ x. ⌜ ((sh : Sheet) → x ≡ fixedHolds sh (asRow o)) ⌝ }
+{
     let k = o.kind;
     let c = o.constraint;
     match k {
@@ -196,7 +228,9 @@ fn fixed_holds(o: Operand) -> bool {
 }
 
 // Group g is of class c, begins with register r and has `len` registers.
-fn is_group(t: &[u32], g: RegGroup, c: RegClass, r: PhysReg, len: usize) -> bool {
+fn is_group(t: &[u32], g: RegGroup, c: RegClass, r: PhysReg, len: usize) -> bool
+    ensures { λ x. ⌜ x ≡ groupIs (c .0) (r .0) len (groupRow (sheetIn (now (t .entry))) (g .0)) ⌝ }
+{
     if !headed_by(t, g, c, r) {
         return false;
     }
@@ -204,7 +238,9 @@ fn is_group(t: &[u32], g: RegGroup, c: RegClass, r: PhysReg, len: usize) -> bool
 }
 
 // A group of class c and of `len` registers begins with register r.
-fn begins_group(t: &[u32], c: RegClass, r: PhysReg, len: usize) -> bool {
+fn begins_group(t: &[u32], c: RegClass, r: PhysReg, len: usize) -> bool
+    ensures { λ x. ⌜ x ≡ beginsGroup (sheetIn (now (t .entry))) (c .0) (r .0) len ⌝ }
+{
     let groups = count(t, Kind::GROUP);
     let mut g: u32 = 0;
     while g < groups {
@@ -217,19 +253,22 @@ fn begins_group(t: &[u32], c: RegClass, r: PhysReg, len: usize) -> bool {
 }
 
 // An operand of value group g begins a group of its class with the value group's length.
-fn group_at(t: &[u32], o: Operand, g: ValueGroup) -> bool {
+fn group_at(t: &[u32], o: Operand, g: ValueGroup) -> bool
+    ensures { λ x. ⌜ (Ready (now (t .entry)) → x ≡ groupAt (sheetIn (now (t .entry))) (asRow o) (g .0)) ⌝ }
+{
     let p = o.place;
     let Place::Reg(r) = p else {
         return false;
     };
-    let constraint = o.constraint;
-    let FoundClass::At(c) = class_for(t, o.at, constraint) else {
+    let FoundClass::At(c) = class_for(t, o) else {
         return false;
     };
     begins_group(t, c, r, group_values(t, g).len())
 }
 
-fn group_holds(t: &[u32], o: Operand) -> bool {
+fn group_holds(t: &[u32], o: Operand) -> bool
+    ensures { λ x. ⌜ (Ready (now (t .entry)) → x ≡ groupHolds (sheetIn (now (t .entry))) (asRow o)) ⌝ }
+{
     let k = o.kind;
     match k {
         OperandKind::DefGroup(g) => group_at(t, o, g),
@@ -242,7 +281,9 @@ fn group_holds(t: &[u32], o: Operand) -> bool {
     }
 }
 
-fn operand_holds(t: &[u32], o: Operand) -> bool {
+fn operand_holds(t: &[u32], o: Operand) -> bool
+    ensures { λ x. ⌜ (Ready (now (t .entry)) → x ≡ operandHolds (sheetIn (now (t .entry))) (asRow o)) ⌝ }
+{
     if !constraint_holds(t, o) {
         return false;
     }
@@ -252,7 +293,9 @@ fn operand_holds(t: &[u32], o: Operand) -> bool {
     group_holds(t, o)
 }
 
-pub fn operands_hold(t: &[u32]) -> bool {
+pub fn operands_hold(t: &[u32]) -> bool
+    ensures { λ x. ⌜ (Ready (now (t .entry)) → x ≡ operandsHold (sheetIn (now (t .entry)))) ⌝ }
+{
     let ops = count(t, Kind::OP);
     let mut n: u32 = 0;
     while n < ops {

@@ -1,4 +1,16 @@
 // The rows of an answer, in document 01's order.
+ghost use mathlib.Core.Path.{_≡_};
+ghost use mathlib.Core.List.{[], _∷_, flatMap};
+ghost use Prim.Native.Nat.{_-_};
+ghost use lib.ListN.{length};
+ghost use Rattle.laws.specs.Lists.{from};
+ghost use Rattle.rules.specs.Cells.{digitsOf};
+ghost use Rattle.rules.specs.Forward.{Walk};
+ghost use Rattle.rules.specs.Answer.{output};
+ghost use Rattle.table.specs.Rows.{countIn};
+ghost use Rattle.table.specs.Sheet.{sheetIn};
+ghost use Rattle.answer.specs.Text.{over, Laid, cellText};
+ghost use Rattle.answer.specs.Rows.{foldLine, foldAt, editAt, countLine, Stands};
 use crate::text::put_cell;
 use crate::text::put_comma;
 use crate::text::put_end;
@@ -16,21 +28,43 @@ use table::view::edit_at;
 // How many counts a count row has.
 pub const COUNTS: usize = 9;
 
-fn put_fold(out: &mut [u8], at: usize, inst: u32, operand: u32, place: u32) -> usize {
+// A comma and then a number.
+fn put_next(out: &mut [u8], at: usize, n: u32) -> usize
+    ensures { λ r. ⌜ Laid (44 ∷ digitsOf n) (now (out .entry)) at (now (out .exit)) r ⌝ }
+{
+    let next = put_comma(out, at);
+    put_number(out, next, n)
+}
+
+// A comma and then a cell.
+fn put_field(out: &mut [u8], at: usize, c: u32) -> usize
+    ensures { λ r. ⌜ Laid (44 ∷ cellText c) (now (out .entry)) at (now (out .exit)) r ⌝ }
+{
+    let next = put_comma(out, at);
+    put_cell(out, next, c)
+}
+
+fn put_fold(out: &mut [u8], at: usize, inst: u32, operand: u32, place: u32) -> usize
+    ensures { λ r. ⌜ Laid (foldLine inst operand place) (now (out .entry)) at (now (out .exit)) r ⌝ }
+{
     let a = put_text(out, at, b"fold");
-    let b = put_field(out, a, inst);
-    let c = put_field(out, b, operand);
+    let b = put_next(out, a, inst);
+    let c = put_next(out, b, operand);
     let d = put_field(out, c, place);
     put_end(out, d)
 }
 
 // A number less another, or 0.
-fn less(a: u32, b: u32) -> u32 {
+fn less(a: u32, b: u32) -> u32
+    ensures { λ r. ⌜ r ≡ a - b ⌝ }
+{
     if b <= a { a - b } else { 0 }
 }
 
 // The fold row of an operand row whose place is altered.
-fn put_fold_of(t: &[u32], places: &[u32], n: u32, out: &mut [u8], at: usize) -> usize {
+fn put_fold_of(t: &[u32], places: &[u32], n: u32, out: &mut [u8], at: usize) -> usize
+    ensures { λ r. ⌜ Laid (foldAt (now (t .entry)) (now (places .entry)) n) (now (out .entry)) at (now (out .exit)) r ⌝ }
+{
     let row = row_of(t, Kind::OP, n);
     let place = read_u32(places, n as usize);
     if place == read_u32(row, 5) {
@@ -41,7 +75,9 @@ fn put_fold_of(t: &[u32], places: &[u32], n: u32, out: &mut [u8], at: usize) -> 
     put_fold(out, at, inst, less(n, rows.from), place)
 }
 
-fn put_folds(t: &[u32], places: &[u32], out: &mut [u8], at: usize) -> usize {
+fn put_folds(t: &[u32], places: &[u32], out: &mut [u8], at: usize) -> usize
+    ensures { λ r. ⌜ Laid (flatMap (foldAt (now (t .entry)) (now (places .entry))) (from 0 (countIn (now (t .entry)) 10))) (now (out .entry)) at (now (out .exit)) r ⌝ }
+{
     let rows = count(t, Kind::OP);
     let mut n: u32 = 0;
     let mut next = at;
@@ -52,13 +88,9 @@ fn put_folds(t: &[u32], places: &[u32], out: &mut [u8], at: usize) -> usize {
     next
 }
 
-// A comma and then a cell.
-fn put_field(out: &mut [u8], at: usize, c: u32) -> usize {
-    let next = put_comma(out, at);
-    put_cell(out, next, c)
-}
-
-fn put_edit(t: &[u32], edits: &[u32], n: u32, out: &mut [u8], at: usize) -> usize {
+fn put_edit(t: &[u32], edits: &[u32], n: u32, out: &mut [u8], at: usize) -> usize
+    ensures { λ r. ⌜ Laid (editAt (now (t .entry)) (now (edits .entry)) n) (now (out .entry)) at (now (out .exit)) r ⌝ }
+{
     let inst = edit_at(t, EditRow(n));
     let i = n as usize * 4;
     let kind = read_u32(edits, i);
@@ -74,7 +106,9 @@ fn put_edit(t: &[u32], edits: &[u32], n: u32, out: &mut [u8], at: usize) -> usiz
     put_end(out, f)
 }
 
-fn put_edits(t: &[u32], edits: &[u32], out: &mut [u8], at: usize) -> usize {
+fn put_edits(t: &[u32], edits: &[u32], out: &mut [u8], at: usize) -> usize
+    ensures { λ r. ⌜ Laid (flatMap (editAt (now (t .entry)) (now (edits .entry))) (from 0 (countIn (now (t .entry)) 12))) (now (out .entry)) at (now (out .exit)) r ⌝ }
+{
     let rows = count(t, Kind::EDIT);
     let mut n: u32 = 0;
     let mut next = at;
@@ -85,23 +119,23 @@ fn put_edits(t: &[u32], edits: &[u32], out: &mut [u8], at: usize) -> usize {
     next
 }
 
-fn put_count(counts: &[u32], k: usize, out: &mut [u8], at: usize) -> usize {
-    let next = put_comma(out, at);
-    put_number(out, next, read_u32(counts, k))
-}
-
-fn put_counts(counts: &[u32], out: &mut [u8], at: usize) -> usize {
+fn put_counts(counts: &[u32], out: &mut [u8], at: usize) -> usize
+    ensures { λ r. ⌜ Laid (countLine (now (counts .entry))) (now (out .entry)) at (now (out .exit)) r ⌝ }
+{
     let mut next = put_text(out, at, b"count");
     let mut k: usize = 0;
     while k < COUNTS {
-        next = put_count(counts, k, out, next);
+        next = put_next(out, next, read_u32(counts, k));
         k += 1;
     }
     put_end(out, next)
 }
 
 // The whole answer from the buffer's start, as far as it fits, and how long it is.
-pub fn render(t: &[u32], edits: &[u32], places: &[u32], counts: &[u32], out: &mut [u8]) -> usize {
+pub fn render(t: &[u32], edits: &[u32], places: &[u32], counts: &[u32], out: &mut [u8]) -> usize
+    ensures { λ r. ⌜ ((w : Walk) → Stands (now (t .entry)) (now (edits .entry)) (now (places .entry)) (now (counts .entry)) w
+        → (r ≡ length (output (sheetIn (now (t .entry))) w)) × (now (out .exit) ≡ over (now (out .entry)) 0 (output (sheetIn (now (t .entry))) w))) ⌝ }
+{
     let a = put_folds(t, places, out, 0);
     let b = put_edits(t, edits, out, a);
     put_counts(counts, out, b)

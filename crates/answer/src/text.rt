@@ -1,12 +1,26 @@
 // Bytes, numbers and cells written at a place of a lent buffer; each gives back the place after it.
+ghost use mathlib.Core.Path.{_≡_};
+ghost use mathlib.Core.List.{[], _∷_};
+ghost use Prim.Native.Nat.{_+_, _%_, _≤_};
+ghost use Rattle.rules.specs.Text.{bytes};
+ghost use Rattle.rules.specs.Cells.{digitsOf};
+ghost use Rattle.answer.specs.Text.{Laid, wordText, cellText};
 use bits::tables::store_u8;
 
-pub fn put(out: &mut [u8], at: usize, b: u8) -> usize {
+pub fn put(out: &mut [u8], at: usize, b: u8) -> usize
+    ensures { λ r. ⌜ Laid (b ∷ []) (now (out .entry)) at (now (out .exit)) r ⌝ }
+{
     store_u8(out, at, b);
-    if at < 0xffff_ffff { at + 1 } else { at }
+    if at < 0xffff_ffff_ffff_ffff {
+        at + 1
+    } else {
+        at
+    }
 }
 
-pub fn put_text(out: &mut [u8], at: usize, text: &[u8]) -> usize {
+pub fn put_text(out: &mut [u8], at: usize, text: &[u8]) -> usize
+    ensures { λ r. ⌜ Laid (now (text .entry)) (now (out .entry)) at (now (out .exit)) r ⌝ }
+{
     let mut i: usize = 0;
     let mut next = at;
     while i < text.len() {
@@ -16,21 +30,16 @@ pub fn put_text(out: &mut [u8], at: usize, text: &[u8]) -> usize {
     next
 }
 
-fn digit(n: u32) -> u8 {
+fn digit(n: u32) -> u8
+    ensures { λ r. ⌜ r ≡ 48 + n % 10 ⌝ }
+{
     48 + (n % 10) as u8
 }
 
-// The power of ten of a number's first digit.
-fn scale(n: u32) -> u32 {
-    let mut p: u32 = 1;
-    while p <= n / 10 {
-        p = p * 10;
-    }
-    p
-}
-
 // A number in decimal, no leading zero. Most have one digit or two.
-pub fn put_number(out: &mut [u8], at: usize, n: u32) -> usize {
+pub fn put_number(out: &mut [u8], at: usize, n: u32) -> usize
+    ensures { λ r. ⌜ Laid (digitsOf n) (now (out .entry)) at (now (out .exit)) r ⌝ }
+{
     if n < 10 {
         return put(out, at, digit(n));
     }
@@ -38,30 +47,27 @@ pub fn put_number(out: &mut [u8], at: usize, n: u32) -> usize {
         let next = put(out, at, digit(n / 10));
         return put(out, next, digit(n));
     }
-    put_digits(out, at, n)
+    let next = put_number(out, at, n / 10);
+    put(out, next, digit(n))
 }
 
-fn put_digits(out: &mut [u8], at: usize, n: u32) -> usize {
-    let mut p = scale(n);
-    let mut next = at;
-    while 0 < p {
-        next = put(out, next, digit(n / p));
-        p = p / 10;
-    }
-    next
-}
-
-pub fn put_comma(out: &mut [u8], at: usize) -> usize {
+pub fn put_comma(out: &mut [u8], at: usize) -> usize
+    ensures { λ r. ⌜ Laid (bytes ",") (now (out .entry)) at (now (out .exit)) r ⌝ }
+{
     put(out, at, b',')
 }
 
-pub fn put_end(out: &mut [u8], at: usize) -> usize {
+pub fn put_end(out: &mut [u8], at: usize) -> usize
+    ensures { λ r. ⌜ Laid (bytes "\r\n") (now (out .entry)) at (now (out .exit)) r ⌝ }
+{
     let next = put(out, at, b'\r');
     put(out, next, b'\n')
 }
 
 // The words that stand in an edit row.
-fn put_word(out: &mut [u8], at: usize, c: u32) -> usize {
+fn put_word(out: &mut [u8], at: usize, c: u32) -> usize
+    ensures { λ r. ⌜ Laid (wordText c) (now (out .entry)) at (now (out .exit)) r ⌝ }
+{
     match c {
         100021 => put_text(out, at, b"move"),
         100022 => put_text(out, at, b"remat"),
@@ -73,7 +79,9 @@ fn put_word(out: &mut [u8], at: usize, c: u32) -> usize {
 }
 
 // The text of a cell: a number, a word, a register or a slot.
-pub fn put_cell(out: &mut [u8], at: usize, c: u32) -> usize {
+pub fn put_cell(out: &mut [u8], at: usize, c: u32) -> usize
+    ensures { λ r. ⌜ Laid (cellText c) (now (out .entry)) at (now (out .exit)) r ⌝ }
+{
     if c < 100000 {
         return put_number(out, at, c);
     }

@@ -1,19 +1,33 @@
-// The slots wanted at each block's end, by going back over the blocks until none waits, and the striking of dead edits.
-use crate::wanted::before_block;
+// The striking of edits whose slot is not wanted, from the end of each block to its start, and the sweep.
+ghost use mathlib.Core.Path.{_≡_};
+ghost use mathlib.Core.Bool.{cond};
+ghost use mathlib.Core.List.{List, [], _∷_, _++_, map};
+ghost use Prim.Native.Nat.{ℕ, _≤_, _<_};
+ghost use lib.ListN.{length, getD};
+ghost use Rattle.bits.specs.declared.sets.NumberSet.{NumberSet};
+ghost use Rattle.entity.specs.Limits.{instLimit};
+ghost use Rattle.rules.specs.Sheet.{blockCount, instsOf};
+ghost use Rattle.rules.specs.Forward.{count, editsAt};
+ghost use Rattle.rules.specs.Function.{Item, row, ins, items, In};
+ghost use Rattle.rules.specs.Sweep.{struck};
+ghost use Rattle.table.specs.Index.{rangeIn};
+ghost use Rattle.dead_spill_elimination.specs.Slots.{Same, numbers};
+ghost use Rattle.dead_spill_elimination.specs.Strikes.{Few, Struck, Work, Pos, Rows, Linked, All, Outcome};
+ghost use Rattle.dead_spill_elimination.specs.Held.{Held, Swept};
+ghost use Rattle.table.specs.Rows.{countIn};
+ghost use Rattle.table.specs.Sheet.{sheetIn};
+use crate::ends::settle;
+use crate::ends::slots_of;
 use crate::wanted::before_edit;
 use crate::wanted::before_inst;
 use crate::wanted::is_dead;
-use bits::sets::NumberSet;
 use bits::tables::read_u32;
 use bits::tables::read_u64;
 use bits::tables::store_u32;
-use bits::tables::store_u64;
 use entity::forms::Edit;
 use entity::numbers::Block;
 use entity::numbers::EditRow;
 use entity::numbers::Inst;
-use entity::sets::BlockSet;
-use entity::sets::FoundBlock;
 use entity::sets::SlotSet;
 use table::edits::read_edit;
 use table::edits::store_edit;
@@ -22,137 +36,25 @@ use table::index::edit_rows;
 use table::index::insts_of;
 use table::rows::Kind;
 use table::rows::count;
-use table::view::preds;
 
 // The places of the two counts in the count row.
 const DEAD_SPILL: usize = 7;
 
 const DEAD_REMAT: usize = 8;
 
-fn load(ends: &[u64], b: u32) -> SlotSet {
-    let at = b as usize * 4;
-    SlotSet(NumberSet {
-        words: [
-            read_u64(ends, at),
-            read_u64(ends, at + 1),
-            read_u64(ends, at + 2),
-            read_u64(ends, at + 3),
-        ],
-    })
-}
-
-fn save(ends: &mut [u64], b: u32, s: SlotSet) {
-    let at = b as usize * 4;
-    let n = s.0;
-    store_u64(ends, at, n.words[0]);
-    store_u64(ends, at + 1, n.words[1]);
-    store_u64(ends, at + 2, n.words[2]);
-    store_u64(ends, at + 3, n.words[3]);
-}
-
-fn same(a: SlotSet, b: SlotSet) -> bool {
-    let x = a.0;
-    let y = b.0;
-    let mut i: usize = 0;
-    while i < NumberSet::WORDS {
-        if x.words[i] != y.words[i] {
-            return false;
-        }
-        i += 1;
-    }
-    true
-}
-
-// A block's end wants what `start` has too; if that is more than before, the block waits.
-fn hand_to(ends: &mut [u64], p: u32, start: SlotSet, waiting: BlockSet) -> BlockSet {
-    let old = load(ends, p);
-    let new = old.join(start);
-    if same(old, new) {
-        return waiting;
-    }
-    save(ends, p, new);
-    waiting.insert(Block(p))
-}
-
-// What is wanted at a block's start is wanted at its predecessors' ends.
-fn hand_back(ends: &mut [u64], preds: &[u32], start: SlotSet, mut waiting: BlockSet) -> BlockSet {
-    let mut i: usize = 0;
-    while i < preds.len() {
-        waiting = hand_to(ends, preds[i], start, waiting);
-        i += 1;
-    }
-    waiting
-}
-
-fn visit(
-    t: &[u32],
-    edits: &[u32],
-    places: &[u32],
-    ends: &mut [u64],
-    b: u32,
-    waiting: BlockSet,
-) -> BlockSet {
-    if !waiting.contains(Block(b)) {
-        return waiting;
-    }
-    let start = before_block(t, edits, places, Block(b), load(ends, b));
-    hand_back(ends, preds(t, Block(b)), start, waiting.remove(Block(b)))
-}
-
-// Each block that waits, from the last to the first.
-fn round(
-    t: &[u32],
-    edits: &[u32],
-    places: &[u32],
-    ends: &mut [u64],
-    mut waiting: BlockSet,
-) -> BlockSet {
-    let mut b = count(t, Kind::BLOCK);
-    while 0 < b {
-        b -= 1;
-        waiting = visit(t, edits, places, ends, b, waiting);
-    }
-    waiting
-}
-
-fn all_blocks(n: u32) -> BlockSet {
-    let mut s = BlockSet::empty();
-    let mut b: u32 = 0;
-    while b < n {
-        s = s.insert(Block(b));
-        b += 1;
-    }
-    s
-}
-
-fn none_waits(waiting: BlockSet) -> bool {
-    match waiting.lowest() {
-        FoundBlock::At(_) => false,
-        FoundBlock::Nothing => true,
-    }
-}
-
-// Each round but the last adds a slot to a block's end, and there are 64 blocks and 256 slots at most.
-fn settle(t: &[u32], edits: &[u32], places: &[u32], ends: &mut [u64]) {
-    let mut waiting = all_blocks(count(t, Kind::BLOCK));
-    let mut rounds: u32 = 0;
-    while rounds < 16400 {
-        if none_waits(waiting) {
-            return;
-        }
-        waiting = round(t, edits, places, ends, waiting);
-        rounds += 1;
-    }
-}
-
-fn count_up(counts: &mut [u32], k: usize) {
+fn count_up(counts: &mut [u32], k: usize)
+    ensures { λ _. ⌜ (getD (now (counts .entry)) k 0 < 1000000 → now (counts .exit) ≡ count k (now (counts .entry))) ⌝ }
+{
     let n = read_u32(counts, k);
     if n < 1000000 {
         store_u32(counts, k, n + 1);
     }
 }
 
-fn count_struck(counts: &mut [u32], e: Edit) {
+// An edit that is struck is counted.
+fn count_struck(counts: &mut [u32], e: Edit)
+    ensures { λ _. ⌜ (Few (now (counts .entry)) → now (counts .exit) ≡ struck (now (counts .entry)) (e, Edit.Nothing)) ⌝ }
+{
     match e {
         Edit::Move {
             to: _,
@@ -167,23 +69,45 @@ fn count_struck(counts: &mut [u32], e: Edit) {
     }
 }
 
-fn strike(edits: &mut [u32], counts: &mut [u32], n: u32, live: SlotSet) -> SlotSet {
+// Row n is struck if it is dead; what is wanted before it.
+fn strike(edits: &mut [u32], counts: &mut [u32], n: u32, live: SlotSet) -> SlotSet
+    ensures { λ r. ⌜ Struck n (live .0) (now (edits .entry)) (now (counts .entry)) (now (edits .exit)) (now (counts .exit)) (r .0) ⌝ }
+{
     let e = read_edit(edits, EditRow(n));
     if is_dead(e, live) {
         store_edit(edits, EditRow(n), Edit::Nothing);
         count_struck(counts, e);
-        return live;
+        return before_edit(e, live);
     }
     before_edit(e, live)
 }
 
-fn strike_edits(edits: &mut [u32], counts: &mut [u32], rows: Range, mut live: SlotSet) -> SlotSet {
+fn strike_edits(edits: &mut [u32], counts: &mut [u32], rows: Range, mut live: SlotSet) -> SlotSet
+    ensures { λ r. ⌜ ((w : Work) (l : List Item) → Rows w (numbers rows) l → Pos w l (now (edits .entry)) (now (counts .entry)) (live .0)
+        → Pos w (map row (numbers rows) ++ l) (now (edits .exit)) (now (counts .exit)) (r .0)) ⌝ }
+{
     let mut n = rows.to;
     while rows.from < n {
         n -= 1;
         live = strike(edits, counts, n, live);
     }
     live
+}
+
+// The edits at instruction i, where `live` are wanted after it.
+fn strike_inst(
+    t: &[u32],
+    edits: &mut [u32],
+    places: &[u32],
+    counts: &mut [u32],
+    i: u32,
+    live: SlotSet,
+) -> SlotSet
+    ensures { λ r. ⌜ ((w : Work) (l : List Item) → Linked (now (t .entry)) (now (places .entry)) (w .sheet) (w .places) (w .edits) (w .counts) → Rows w (editsAt (w .sheet) i) l
+        → Pos w l (now (edits .entry)) (now (counts .entry)) (live .0) → Pos w (map row (editsAt (w .sheet) i) ++ (ins i ∷ l)) (now (edits .exit)) (now (counts .exit)) (r .0)) ⌝ }
+{
+    let after = before_inst(t, places, Inst(i), live);
+    strike_edits(edits, counts, edit_rows(t, Inst(i)), after)
 }
 
 fn strike_block(
@@ -193,32 +117,70 @@ fn strike_block(
     counts: &mut [u32],
     b: Block,
     mut live: SlotSet,
-) {
+)
+    ensures { λ _. ⌜ ((w : Work) → Linked (now (t .entry)) (now (places .entry)) (w .sheet) (w .places) (w .edits) (w .counts)
+        → ((i j : ℕ) → In i (instsOf (w .sheet) (b .0)) → In j (editsAt (w .sheet) i) → getD (w .now) j Edit.Nothing ≡ getD (w .edits) j Edit.Nothing)
+        → Pos w [] (now (edits .entry)) (now (counts .entry)) (live .0) → (S : NumberSet) × Pos w (items (w .sheet) (b .0)) (now (edits .exit)) (now (counts .exit)) S) ⌝ }
+{
     let insts = insts_of(t, b);
     let mut i = insts.to;
     while insts.from < i {
         i -= 1;
-        live = strike_edits(
-            edits,
-            counts,
-            edit_rows(t, Inst(i)),
-            before_inst(t, places, Inst(i), live),
-        );
+        live = strike_inst(t, edits, places, counts, i, live);
     }
 }
 
-fn strike_all(t: &[u32], edits: &mut [u32], places: &[u32], counts: &mut [u32], ends: &[u64]) {
-    let n = count(t, Kind::BLOCK);
-    let mut b: u32 = 0;
-    while b < n {
-        strike_block(t, edits, places, counts, Block(b), load(ends, b));
+// Each block, where `ends` has the slots wanted at its end.
+fn strike_all(t: &[u32], edits: &mut [u32], places: &[u32], counts: &mut [u32], ends: &[u64])
+    requires { ⌜ length (now ends) ≤ 64 ⌝ }
+    ensures { λ _. ⌜ ((h : All (now (t .entry)) (now (places .entry)) (now (edits .entry)) (now (counts .entry)) (now (ends .entry))) → Outcome h (now (edits .exit)) (now (counts .exit))) ⌝ }
+{
+    let mut b: usize = 0;
+    while b < ends.len() {
+        let live = slots_of(ends[b]);
+        strike_block(t, edits, places, counts, Block(b as u32), live);
         b += 1;
     }
 }
 
+// How many blocks there are, or 64 if there are more.
+fn block_count(t: &[u32]) -> usize
+    ensures { λ r. ⌜ (r ≤ 64) × (countIn (now (t .entry)) 6 ≤ 64 → r ≡ countIn (now (t .entry)) 6) ⌝ }
+{
+    let n = count(t, Kind::BLOCK);
+    if n < 64 {
+        return n as usize;
+    }
+    64
+}
+
+// The sweep, with a word of slots and a flag for each block.
+fn sweep_in(
+    t: &[u32],
+    edits: &mut [u32],
+    places: &[u32],
+    counts: &mut [u32],
+    ends: &mut [u64],
+    wait: &mut [u8],
+)
+    requires few { ⌜ length (now wait) ≤ 64 ⌝ }
+    requires many { ⌜ length (now ends) ≡ length (now wait) ⌝ }
+    requires none { ⌜ ((b : ℕ) → getD (now ends) b 0 ≡ 0) ⌝ }
+    requires all { ⌜ ((b : ℕ) → b < length (now wait) → getD (now wait) b 0 ≡ 0 → ⊥) ⌝ }
+    ensures { λ _. ⌜ (Held (now (t .entry)) (now (edits .entry)) (now (places .entry)) (now (counts .entry)) → length (now (wait .entry)) ≡ blockCount (sheetIn (now (t .entry)))
+        → Swept (now (t .entry)) (now (edits .entry)) (now (places .entry)) (now (counts .entry)) (now (edits .exit)) (now (counts .exit))) ⌝ }
+{
+    settle(t, edits, places, ends, wait);
+    strike_all(t, edits, places, counts, ends);
+}
+
 // The edits in their cells, swept, and the two counts.
-pub fn sweep_edits(t: &[u32], edits: &mut [u32], places: &[u32], counts: &mut [u32]) {
-    let mut ends = [0u64; 256];
-    settle(t, edits, places, &mut ends);
-    strike_all(t, edits, places, counts, &ends);
+pub fn sweep_edits(t: &[u32], edits: &mut [u32], places: &[u32], counts: &mut [u32])
+    ensures { λ _. ⌜ (Held (now (t .entry)) (now (edits .entry)) (now (places .entry)) (now (counts .entry))
+        → Swept (now (t .entry)) (now (edits .entry)) (now (places .entry)) (now (counts .entry)) (now (edits .exit)) (now (counts .exit))) ⌝ }
+{
+    let mut ends = [0u64; 64];
+    let mut wait = [1u8; 64];
+    let n = block_count(t);
+    sweep_in(t, edits, places, counts, &mut ends[..n], &mut wait[..n]);
 }

@@ -1,38 +1,66 @@
 // The slots wanted before an edit, an instruction and a block, from those wanted after it.
+ghost use mathlib.Core.Path.{_≡_};
+ghost use mathlib.Core.Bool.{true, false, cond, not, _||_};
+ghost use mathlib.Core.List.{List, [], _++_};
+ghost use Prim.Native.Nat.{ℕ};
+ghost use lib.Dec.{eqb};
+ghost use Rattle.bits.specs.Sets.{has};
+ghost use Rattle.entity.specs.Limits.{slotLimit, instLimit, blockLimit};
+ghost use Rattle.rules.specs.Function.{edit, slotOf, In};
+ghost use Rattle.rules.specs.Sweep.{wantedBefore};
+ghost use Rattle.table.specs.Edits.{editIn};
+ghost use Rattle.table.specs.Index.{rangeIn};
+ghost use Rattle.dead_spill_elimination.specs.Slots.{Same, Low, LowReads, gone, lacks, deadIn, numbers, back, defsAt, usesAt, editsBack, instBack, blockBack, Lows};
 use bits::tables::read_u32;
 use entity::forms::Edit;
-use entity::forms::OperandKind;
 use entity::forms::Place;
 use entity::numbers::Block;
 use entity::numbers::EditRow;
 use entity::numbers::Inst;
-use entity::numbers::OperandRow;
+use entity::numbers::SpillSlot;
 use entity::sets::SlotSet;
 use table::edits::read_edit;
 use table::index::Range;
 use table::index::edit_rows;
 use table::index::insts_of;
 use table::index::op_rows;
-use table::view::operand_at;
+use table::rows::Kind;
+use table::rows::row_of;
 use table::view::place_of;
 
 // The slots with that of a place, if it is one.
-fn with_place(live: SlotSet, p: Place) -> SlotSet {
+fn with_place(live: SlotSet, p: Place) -> SlotSet
+    ensures { λ r. ⌜ ((A : List ℕ) → Low (slotOf p) → Same (live .0) A → Same (r .0) (slotOf p ++ A)) ⌝ }
+{
     match p {
         Place::Slot(s) => live.insert(s),
         Place::Reg(_) => live,
     }
 }
 
-fn without_place(live: SlotSet, p: Place) -> SlotSet {
+fn without_place(live: SlotSet, p: Place) -> SlotSet
+    ensures { λ r. ⌜ ((A : List ℕ) → Same (live .0) A → Same (r .0) (gone (slotOf p) A)) ⌝ }
+{
     match p {
         Place::Slot(s) => live.remove(s),
         Place::Reg(_) => live,
     }
 }
 
+// The slots wanted before a move into slot `to`.
+fn moved(live: SlotSet, to: SpillSlot, from: Place) -> SlotSet
+    ensures { λ r. ⌜ ((A : List ℕ) → Low (slotOf from) → Same (live .0) A → Same (r .0) (cond (has (live .0) (to .0)) (slotOf from ++ gone (slotOf (Place.Slot to)) A) A)) ⌝ }
+{
+    if live.contains(to) {
+        return with_place(live.remove(to), from);
+    }
+    live
+}
+
 // The place is a slot that is not wanted.
-fn unwanted(live: SlotSet, p: Place) -> bool {
+fn unwanted(live: SlotSet, p: Place) -> bool
+    ensures { λ r. ⌜ r ≡ lacks (live .0) p ⌝ }
+{
     match p {
         Place::Slot(s) => !live.contains(s),
         Place::Reg(_) => false,
@@ -40,7 +68,9 @@ fn unwanted(live: SlotSet, p: Place) -> bool {
 }
 
 // A move or rematerialisation into a slot that is not wanted after it.
-pub fn is_dead(e: Edit, live: SlotSet) -> bool {
+pub fn is_dead(e: Edit, live: SlotSet) -> bool
+    ensures { λ r. ⌜ r ≡ deadIn (live .0) e ⌝ }
+{
     match e {
         Edit::Move {
             to,
@@ -55,10 +85,15 @@ pub fn is_dead(e: Edit, live: SlotSet) -> bool {
     }
 }
 
-// The slots wanted before an edit that is not dead.
-pub fn before_edit(e: Edit, live: SlotSet) -> SlotSet {
+// The slots wanted before an edit.
+pub fn before_edit(e: Edit, live: SlotSet) -> SlotSet
+    ensures { λ r. ⌜ ((A : List ℕ) → LowReads (edit e) → Same (live .0) A → Same (r .0) (wantedBefore (edit e) A)) ⌝ }
+{
     match e {
-        Edit::Move { to, from, value: _ } => with_place(without_place(live, to), from),
+        Edit::Move { to, from, value: _ } => match to {
+            Place::Slot(d) => moved(live, d, from),
+            Place::Reg(_) => with_place(live, from),
+        },
         Edit::Remat { to, value: _ } => without_place(live, to),
         Edit::Espill { to, from: _ } => live.remove(to),
         Edit::Ereload { to: _, from } => live.insert(from),
@@ -67,70 +102,81 @@ pub fn before_edit(e: Edit, live: SlotSet) -> SlotSet {
     }
 }
 
-fn defines(k: OperandKind) -> bool {
-    match k {
-        OperandKind::Def(_) => true,
-        OperandKind::EarlyDef(_) => true,
-        OperandKind::Use(_) => false,
-        OperandKind::DefGroup(_) => false,
-        OperandKind::UseGroup(_) => false,
-        OperandKind::EarlyDefGroup(_) => false,
-        OperandKind::NonAllocatable => false,
+// The words of the kinds of operands that define a value, and of those that read one.
+const DEF: u32 = 100014;
+
+const USE: u32 = 100015;
+
+const EARLY: u32 = 100016;
+
+fn defines(k: u32) -> bool
+    ensures { λ r. ⌜ r ≡ (eqb k 100014 || eqb k 100016) ⌝ }
+{
+    if k == DEF {
+        return true;
     }
+    k == EARLY
 }
 
-fn uses(k: OperandKind) -> bool {
-    match k {
-        OperandKind::Use(_) => true,
-        OperandKind::Def(_) => false,
-        OperandKind::EarlyDef(_) => false,
-        OperandKind::DefGroup(_) => false,
-        OperandKind::UseGroup(_) => false,
-        OperandKind::EarlyDefGroup(_) => false,
-        OperandKind::NonAllocatable => false,
-    }
-}
-
-fn without_defs(t: &[u32], places: &[u32], rows: Range, mut live: SlotSet) -> SlotSet {
-    let mut n = rows.from;
-    while n < rows.to {
-        let o = operand_at(t, OperandRow(n));
-        let k = o.kind;
-        if defines(k) {
-            live = without_place(live, place_of(read_u32(places, n as usize)));
-        }
-        n += 1;
+// The slots without that which operand row n defines.
+fn without_def(t: &[u32], n: u32, live: SlotSet) -> SlotSet
+    ensures { λ r. ⌜ ((A : List ℕ) → Same (live .0) A → Same (r .0) (gone (defsAt (now (t .entry)) n) A)) ⌝ }
+{
+    let row = row_of(t, Kind::OP, n);
+    if defines(read_u32(row, 2)) {
+        return without_place(live, place_of(read_u32(row, 5)));
     }
     live
 }
 
-fn with_uses(t: &[u32], places: &[u32], rows: Range, mut live: SlotSet) -> SlotSet {
-    let mut n = rows.from;
-    while n < rows.to {
-        let o = operand_at(t, OperandRow(n));
-        let k = o.kind;
-        if uses(k) {
-            live = with_place(live, place_of(read_u32(places, n as usize)));
-        }
-        n += 1;
+// The slots with that which operand row n reads.
+fn with_use(t: &[u32], places: &[u32], n: u32, live: SlotSet) -> SlotSet
+    ensures { λ r. ⌜ ((A : List ℕ) → Low (usesAt (now (t .entry)) (now (places .entry)) n) → Same (live .0) A → Same (r .0) (usesAt (now (t .entry)) (now (places .entry)) n ++ A)) ⌝ }
+{
+    if read_u32(row_of(t, Kind::OP, n), 2) == USE {
+        return with_place(live, place_of(read_u32(places, n as usize)));
+    }
+    live
+}
+
+fn without_defs(t: &[u32], rows: Range, mut live: SlotSet) -> SlotSet
+    ensures { λ r. ⌜ ((A : List ℕ) → Same (live .0) A → Same (r .0) (back (λ n B. gone (defsAt (now (t .entry)) n) B) (numbers rows) A)) ⌝ }
+{
+    let mut n = rows.to;
+    while rows.from < n {
+        n -= 1;
+        live = without_def(t, n, live);
+    }
+    live
+}
+
+fn with_uses(t: &[u32], places: &[u32], rows: Range, mut live: SlotSet) -> SlotSet
+    ensures { λ r. ⌜ ((A : List ℕ) → ((n : ℕ) → Low (usesAt (now (t .entry)) (now (places .entry)) n)) → Same (live .0) A
+        → Same (r .0) (back (λ n B. usesAt (now (t .entry)) (now (places .entry)) n ++ B) (numbers rows) A)) ⌝ }
+{
+    let mut n = rows.to;
+    while rows.from < n {
+        n -= 1;
+        live = with_use(t, places, n, live);
     }
     live
 }
 
 // The defined slots are taken away, then the used ones added.
-pub fn before_inst(t: &[u32], places: &[u32], i: Inst, live: SlotSet) -> SlotSet {
+pub fn before_inst(t: &[u32], places: &[u32], i: Inst, live: SlotSet) -> SlotSet
+    ensures { λ r. ⌜ ((A : List ℕ) → ((n : ℕ) → Low (usesAt (now (t .entry)) (now (places .entry)) n)) → Same (live .0) A → Same (r .0) (instBack (now (t .entry)) (now (places .entry)) (i .0) A)) ⌝ }
+{
     let rows = op_rows(t, i);
-    with_uses(t, places, rows, without_defs(t, places, rows, live))
+    with_uses(t, places, rows, without_defs(t, rows, live))
 }
 
-fn before_edits(edits: &[u32], rows: Range, mut live: SlotSet) -> SlotSet {
+fn before_edits(edits: &[u32], rows: Range, mut live: SlotSet) -> SlotSet
+    ensures { λ r. ⌜ ((A : List ℕ) → ((j : ℕ) → In j (numbers rows) → LowReads (edit (editIn (now (edits .entry)) j))) → Same (live .0) A → Same (r .0) (editsBack (now (edits .entry)) (numbers rows) A)) ⌝ }
+{
     let mut n = rows.to;
     while rows.from < n {
         n -= 1;
-        let e = read_edit(edits, EditRow(n));
-        if !is_dead(e, live) {
-            live = before_edit(e, live);
-        }
+        live = before_edit(read_edit(edits, EditRow(n)), live);
     }
     live
 }
@@ -142,7 +188,10 @@ pub fn before_block(
     places: &[u32],
     b: Block,
     mut live: SlotSet,
-) -> SlotSet {
+) -> SlotSet
+    ensures { λ r. ⌜ ((A : List ℕ) → Lows (now (t .entry)) (now (edits .entry)) (now (places .entry)) → Same (live .0) A
+        → Same (r .0) (blockBack (now (t .entry)) (now (edits .entry)) (now (places .entry)) (b .0) A)) ⌝ }
+{
     let insts = insts_of(t, b);
     let mut i = insts.to;
     while insts.from < i {

@@ -1,7 +1,4 @@
 // What an instruction's operands define, and what it clobbers.
-use crate::record::LENGTH;
-use crate::steps::define;
-use crate::steps::forget_unit;
 use bits::tables::read_u32;
 use entity::forms::Constraint;
 use entity::forms::OperandKind;
@@ -17,6 +14,9 @@ use entity::numbers::RegUnit;
 use entity::numbers::Value;
 use entity::numbers::ValueGroup;
 use entity::sets::UnitSet;
+use record::flat::LENGTH;
+use record::steps::define;
+use record::steps::forget_unit;
 use table::index::op_rows;
 use table::rows::Kind;
 use table::rows::count;

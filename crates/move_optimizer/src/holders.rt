@@ -1,6 +1,4 @@
 // Which registers hold a value: the lowest non-memory one, of all or of a class.
-use crate::record::LENGTH;
-use crate::steps::holds;
 use bits::sets::NumberSet;
 use entity::forms::Place;
 use entity::numbers::PhysReg;
@@ -8,6 +6,8 @@ use entity::numbers::RegClass;
 use entity::numbers::Value;
 use entity::sets::FoundReg;
 use entity::sets::PhysRegSet;
+use record::flat::LENGTH;
+use record::steps::holds;
 use table::rows::Kind;
 use table::rows::count;
 use table::view::is_memory;

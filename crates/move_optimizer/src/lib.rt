@@ -4,6 +4,4 @@ mod edit;
 mod holders;
 mod inst;
 pub mod levels;
-mod record;
 mod states;
-mod steps;

@@ -1,15 +1,15 @@
 // What is handed to each block: the value of each register and of each slot, as the record has them side by side.
-use crate::record::HELD;
-use crate::record::LENGTH;
-use crate::record::NONE;
-use crate::record::defined;
-use crate::record::held;
-use crate::steps::write_units;
 use entity::numbers::Block;
 use entity::numbers::PhysReg;
 use entity::numbers::SpillSlot;
 use entity::numbers::Value;
 use entity::sets::BlockSet;
+use record::flat::HELD;
+use record::flat::LENGTH;
+use record::flat::NONE;
+use record::flat::defined;
+use record::flat::held;
+use record::steps::write_units;
 use table::rows::Kind;
 use table::rows::count;
 use table::view::succs;

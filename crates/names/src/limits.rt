@@ -1,5 +1,14 @@
 // Refusal 2: the limits. It goes by the rows alone, before there is an index.
 ghost use mathlib.Core.Path.{_≡_};
+ghost use mathlib.Core.Bool.{cond};
+ghost use lib.Dec.{leb};
+ghost use Prim.Native.Nat.{_+_};
+ghost use Rattle.laws.specs.Lists.{all};
+ghost use Rattle.entity.specs.Limits.{instLimit};
+ghost use Rattle.rules.specs.Sheet.{instCount};
+ghost use Rattle.rules.specs.Accept.{unitsWithin, reuseWithin, withinLimits};
+ghost use Rattle.table.specs.Sheet.{sheetIn};
+ghost use Rattle.names.specs.Steps.{machineWithin};
 use crate::lists::all_below;
 use bits::tables::read_u32;
 use entity::forms::Constraint;
@@ -24,11 +33,15 @@ use table::view::inst_count;
 use table::view::slot_count;
 use table::view::units;
 
-fn units_within(list: &[u32]) -> bool {
+fn units_within(list: &[u32]) -> bool
+    ensures { λ r. ⌜ r ≡ unitsWithin (now (list .entry)) ⌝ }
+{
     all_below(list, RegUnit::LIMIT)
 }
 
-fn reuse_within(c: Constraint) -> bool {
+fn reuse_within(c: Constraint) -> bool
+    ensures { λ r. ⌜ r ≡ reuseWithin c ⌝ }
+{
     match c {
         Constraint::Class(_) => true,
         Constraint::Fixed(_) => true,
@@ -36,7 +49,9 @@ fn reuse_within(c: Constraint) -> bool {
     }
 }
 
-fn regs_within(t: &[u32]) -> bool {
+fn regs_within(t: &[u32]) -> bool
+    ensures { λ r. ⌜ r ≡ all (λ x. unitsWithin (x .units)) (sheetIn (now (t .entry)) .regs) ⌝ }
+{
     let regs = count(t, Kind::REG);
     let mut r: u32 = 0;
     while r < regs {
@@ -48,7 +63,9 @@ fn regs_within(t: &[u32]) -> bool {
     true
 }
 
-fn clobs_within(t: &[u32]) -> bool {
+fn clobs_within(t: &[u32]) -> bool
+    ensures { λ r. ⌜ r ≡ all (λ x. unitsWithin (x .list)) (sheetIn (now (t .entry)) .clobs) ⌝ }
+{
     let clobs = count(t, Kind::CLOB);
     let mut n: u32 = 0;
     while n < clobs {
@@ -60,7 +77,9 @@ fn clobs_within(t: &[u32]) -> bool {
     true
 }
 
-fn ops_within(t: &[u32]) -> bool {
+fn ops_within(t: &[u32]) -> bool
+    ensures { λ r. ⌜ r ≡ all (λ x. reuseWithin (x .constraint)) (sheetIn (now (t .entry)) .ops) ⌝ }
+{
     let ops = count(t, Kind::OP);
     let mut n: u32 = 0;
     while n < ops {
@@ -73,7 +92,9 @@ fn ops_within(t: &[u32]) -> bool {
 }
 
 // The instructions of all blocks, or one more than the limit where they pass it.
-pub fn inst_total(t: &[u32]) -> u32 {
+pub fn inst_total(t: &[u32]) -> u32
+    ensures { λ r. ⌜ r ≡ cond (leb (instCount (sheetIn (now (t .entry)))) instLimit) (instCount (sheetIn (now (t .entry)))) (instLimit + 1) ⌝ }
+{
     let blocks = count(t, Kind::BLOCK);
     let mut b: u32 = 0;
     let mut sum: u32 = 0;
@@ -89,7 +110,9 @@ pub fn inst_total(t: &[u32]) -> u32 {
 }
 
 // Slots, registers and their units, classes, register groups, values and value groups.
-fn machine_within(t: &[u32]) -> bool {
+fn machine_within(t: &[u32]) -> bool
+    ensures { λ r. ⌜ r ≡ machineWithin (sheetIn (now (t .entry))) ⌝ }
+{
     if SpillSlot::LIMIT < slot_count(t) {
         return false;
     }
@@ -111,7 +134,9 @@ fn machine_within(t: &[u32]) -> bool {
     count(t, Kind::VGROUP) <= ValueGroup::LIMIT
 }
 
-pub fn within_limits(t: &[u32]) -> bool {
+pub fn within_limits(t: &[u32]) -> bool
+    ensures { λ r. ⌜ r ≡ withinLimits (sheetIn (now (t .entry))) ⌝ }
+{
     if !machine_within(t) {
         return false;
     }

@@ -2,10 +2,14 @@
 ghost use mathlib.Core.Path.{_≡_};
 ghost use mathlib.Core.Bool.{true, _&&_, _||_};
 ghost use lib.Dec.{ltb};
+ghost use Rattle.laws.specs.Lists.{all, any, isIn, twice};
+ghost use Rattle.bits.specs.Sets.{has, setOf, setLimit};
 use bits::sets::NumberSet;
 
 // Each of them is below `limit`.
-pub fn all_below(list: &[u32], limit: u32) -> bool {
+pub fn all_below(list: &[u32], limit: u32) -> bool
+    ensures { λ r. ⌜ r ≡ all (λ x. ltb x limit) (now (list .entry)) ⌝ }
+{
     let mut i: usize = 0;
     while i < list.len() {
         if list[i] >= limit {
@@ -17,7 +21,9 @@ pub fn all_below(list: &[u32], limit: u32) -> bool {
 }
 
 // x is one of them.
-pub fn is_in(x: u32, list: &[u32]) -> bool {
+pub fn is_in(x: u32, list: &[u32]) -> bool
+    ensures { λ r. ⌜ r ≡ isIn x (now (list .entry)) ⌝ }
+{
     let mut i: usize = 0;
     while i < list.len() {
         if x == list[i] {
@@ -29,7 +35,9 @@ pub fn is_in(x: u32, list: &[u32]) -> bool {
 }
 
 // One of them stands twice, where all are below `NumberSet::LIMIT`.
-pub fn stands_twice(list: &[u32]) -> bool {
+pub fn stands_twice(list: &[u32]) -> bool
+    ensures { λ r. ⌜ (all (λ x. ltb x setLimit) (now (list .entry)) ≡ true → r ≡ twice (now (list .entry))) ⌝ }
+{
     let mut seen = NumberSet::empty();
     let mut i: usize = 0;
     while i < list.len() {
@@ -44,7 +52,9 @@ pub fn stands_twice(list: &[u32]) -> bool {
 }
 
 // Each of them is in the set.
-pub fn all_in(list: &[u32], s: NumberSet) -> bool {
+pub fn all_in(list: &[u32], s: NumberSet) -> bool
+    ensures { λ r. ⌜ r ≡ all (has s) (now (list .entry)) ⌝ }
+{
     let mut i: usize = 0;
     while i < list.len() {
         let x = list[i];
@@ -57,7 +67,9 @@ pub fn all_in(list: &[u32], s: NumberSet) -> bool {
 }
 
 // One of them is in the set.
-pub fn any_in(list: &[u32], s: NumberSet) -> bool {
+pub fn any_in(list: &[u32], s: NumberSet) -> bool
+    ensures { λ r. ⌜ r ≡ any (has s) (now (list .entry)) ⌝ }
+{
     let mut i: usize = 0;
     while i < list.len() {
         let x = list[i];
@@ -70,7 +82,9 @@ pub fn any_in(list: &[u32], s: NumberSet) -> bool {
 }
 
 // The set with each of them.
-pub fn with_all(s: NumberSet, list: &[u32]) -> NumberSet {
+pub fn with_all(s: NumberSet, list: &[u32]) -> NumberSet
+    ensures { λ r. ⌜ r ≡ setOf (λ k. has s k || isIn k (now (list .entry))) ⌝ }
+{
     let mut grown = s;
     let mut i: usize = 0;
     while i < list.len() {
@@ -82,7 +96,9 @@ pub fn with_all(s: NumberSet, list: &[u32]) -> NumberSet {
 }
 
 // The set with each of them that is in `seen`.
-pub fn with_seen(s: NumberSet, seen: NumberSet, list: &[u32]) -> NumberSet {
+pub fn with_seen(s: NumberSet, seen: NumberSet, list: &[u32]) -> NumberSet
+    ensures { λ r. ⌜ r ≡ setOf (λ k. has s k || (has seen k && isIn k (now (list .entry)))) ⌝ }
+{
     let mut grown = s;
     let mut i: usize = 0;
     while i < list.len() {

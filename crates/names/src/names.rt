@@ -1,10 +1,19 @@
 // Refusal 3: each row names what there is, no list has one thing twice, and no two groups share class and first register.
 // Units are below 128 and numbers that exist below 256, as the limits hold: sets hold them all.
 ghost use mathlib.Core.Path.{_≡_};
-ghost use mathlib.Core.Bool.{true, _&&_};
+ghost use mathlib.Core.Bool.{true, not, _&&_};
 ghost use mathlib.Core.Option.{Option·elim};
-ghost use lib.Dec.{ltb, leb};
+ghost use Prim.Native.Nat.{_+_};
+ghost use lib.Dec.{ltb};
 ghost use lib.ListN.{getD, drop};
+ghost use Rattle.laws.specs.Lists.{all, any, twice};
+ghost use Rattle.bits.specs.Sets.{has, setOf, setLimit};
+ghost use Rattle.rules.specs.Sheet.{listRow, classRow, homeOf, valuesOf, blockRow};
+ghost use Rattle.rules.specs.Accept.{unitExists, regExists, classExists, valueExists, vgroupExists, blockExists, slotExists, placeExists, subjectExists, constraintExists, editNames, withinLimits, allNamed, noneTwice, headedBy, headsApart, namesHold};
+ghost use Rattle.table.specs.Rows.{kindRow};
+ghost use Rattle.table.specs.Sheet.{rowsAt, sheetIn};
+ghost use Rattle.table.specs.View.{groupRow, paramRow, opRow, editRow};
+ghost use Rattle.names.specs.Steps.{groupNamed, edgeNamed, paramNamed, opNamed, clobNamed, editNamed, machineNamed, codeNamed};
 use crate::limits::inst_total;
 use crate::lists::all_below;
 use crate::lists::all_in;
@@ -45,45 +54,63 @@ use table::view::param_at;
 use table::view::slot_count;
 use table::view::units;
 
-fn both(a: bool, b: bool) -> bool {
+fn both(a: bool, b: bool) -> bool
+    ensures { λ r. ⌜ r ≡ (a && b) ⌝ }
+{
     if a {
         return b;
     }
     false
 }
 
-fn reg_exists(t: &[u32], r: PhysReg) -> bool {
+fn reg_exists(t: &[u32], r: PhysReg) -> bool
+    ensures { λ x. ⌜ x ≡ regExists (sheetIn (now (t .entry))) (r .0) ⌝ }
+{
     r.0 < count(t, Kind::REG)
 }
 
-fn class_exists(t: &[u32], c: RegClass) -> bool {
+fn class_exists(t: &[u32], c: RegClass) -> bool
+    ensures { λ x. ⌜ x ≡ classExists (sheetIn (now (t .entry))) (c .0) ⌝ }
+{
     c.0 < count(t, Kind::CLASS)
 }
 
-fn value_exists(t: &[u32], v: Value) -> bool {
+fn value_exists(t: &[u32], v: Value) -> bool
+    ensures { λ x. ⌜ x ≡ valueExists (sheetIn (now (t .entry))) (v .0) ⌝ }
+{
     v.0 < count(t, Kind::VALUE)
 }
 
-fn vgroup_exists(t: &[u32], g: ValueGroup) -> bool {
+fn vgroup_exists(t: &[u32], g: ValueGroup) -> bool
+    ensures { λ x. ⌜ x ≡ vgroupExists (sheetIn (now (t .entry))) (g .0) ⌝ }
+{
     g.0 < count(t, Kind::VGROUP)
 }
 
-fn block_exists(t: &[u32], b: Block) -> bool {
+fn block_exists(t: &[u32], b: Block) -> bool
+    ensures { λ x. ⌜ x ≡ blockExists (sheetIn (now (t .entry))) (b .0) ⌝ }
+{
     b.0 < count(t, Kind::BLOCK)
 }
 
-fn slot_exists(t: &[u32], s: SpillSlot) -> bool {
+fn slot_exists(t: &[u32], s: SpillSlot) -> bool
+    ensures { λ x. ⌜ x ≡ slotExists (sheetIn (now (t .entry))) (s .0) ⌝ }
+{
     s.0 < slot_count(t)
 }
 
-fn place_exists(t: &[u32], p: Place) -> bool {
+fn place_exists(t: &[u32], p: Place) -> bool
+    ensures { λ x. ⌜ x ≡ placeExists (sheetIn (now (t .entry))) p ⌝ }
+{
     match p {
         Place::Reg(r) => reg_exists(t, r),
         Place::Slot(s) => slot_exists(t, s),
     }
 }
 
-fn subject_exists(t: &[u32], k: OperandKind) -> bool {
+fn subject_exists(t: &[u32], k: OperandKind) -> bool
+    ensures { λ x. ⌜ x ≡ subjectExists (sheetIn (now (t .entry))) k ⌝ }
+{
     match k {
         OperandKind::Def(v) => value_exists(t, v),
         OperandKind::Use(v) => value_exists(t, v),
@@ -96,7 +123,9 @@ fn subject_exists(t: &[u32], k: OperandKind) -> bool {
 }
 
 // A reuse of an absent operand is left to refusal 5.
-fn constraint_exists(t: &[u32], c: Constraint) -> bool {
+fn constraint_exists(t: &[u32], c: Constraint) -> bool
+    ensures { λ x. ⌜ x ≡ constraintExists (sheetIn (now (t .entry))) c ⌝ }
+{
     match c {
         Constraint::Class(c) => class_exists(t, c),
         Constraint::Fixed(r) => reg_exists(t, r),
@@ -104,7 +133,9 @@ fn constraint_exists(t: &[u32], c: Constraint) -> bool {
     }
 }
 
-fn edit_names(t: &[u32], e: Edit) -> bool {
+fn edit_names(t: &[u32], e: Edit) -> bool
+    ensures { λ x. ⌜ x ≡ editNames (sheetIn (now (t .entry))) e ⌝ }
+{
     match e {
         Edit::Move { to, from, value } => both(
             both(place_exists(t, to), place_exists(t, from)),
@@ -119,7 +150,9 @@ fn edit_names(t: &[u32], e: Edit) -> bool {
 }
 
 // The units that a register has.
-fn all_units(t: &[u32]) -> UnitSet {
+fn all_units(t: &[u32]) -> UnitSet
+    ensures { λ x. ⌜ x .0 ≡ setOf (unitExists (sheetIn (now (t .entry)))) ⌝ }
+{
     let regs = count(t, Kind::REG);
     let mut seen = NumberSet::empty();
     let mut r: u32 = 0;
@@ -130,11 +163,15 @@ fn all_units(t: &[u32]) -> UnitSet {
     UnitSet(seen)
 }
 
-fn class_named(t: &[u32], c: RegClass) -> bool {
+fn class_named(t: &[u32], c: RegClass) -> bool
+    ensures { λ x. ⌜ x ≡ all (regExists (sheetIn (now (t .entry)))) (classRow (sheetIn (now (t .entry))) (c .0) .members) ⌝ }
+{
     all_below(members(t, c), count(t, Kind::REG))
 }
 
-fn classes_named(t: &[u32]) -> bool {
+fn classes_named(t: &[u32]) -> bool
+    ensures { λ x. ⌜ x ≡ all (λ c. all (regExists (sheetIn (now (t .entry)))) (c .members)) (sheetIn (now (t .entry)) .classes) ⌝ }
+{
     let rows = count(t, Kind::CLASS);
     let mut c: u32 = 0;
     while c < rows {
@@ -146,12 +183,16 @@ fn classes_named(t: &[u32]) -> bool {
     true
 }
 
-fn group_named(t: &[u32], g: RegGroup) -> bool {
+fn group_named(t: &[u32], g: RegGroup) -> bool
+    ensures { λ x. ⌜ x ≡ groupNamed (sheetIn (now (t .entry))) (groupRow (sheetIn (now (t .entry))) (g .0)) ⌝ }
+{
     let regs = all_below(group_regs(t, g), count(t, Kind::REG));
     both(class_exists(t, group_class(t, g)), regs)
 }
 
-fn groups_named(t: &[u32]) -> bool {
+fn groups_named(t: &[u32]) -> bool
+    ensures { λ x. ⌜ x ≡ all (groupNamed (sheetIn (now (t .entry)))) (sheetIn (now (t .entry)) .groups) ⌝ }
+{
     let rows = count(t, Kind::GROUP);
     let mut g: u32 = 0;
     while g < rows {
@@ -163,14 +204,18 @@ fn groups_named(t: &[u32]) -> bool {
     true
 }
 
-fn home_named(t: &[u32], v: Value) -> bool {
+fn home_named(t: &[u32], v: Value) -> bool
+    ensures { λ x. ⌜ x ≡ Option·elim (homeOf (sheetIn (now (t .entry))) (v .0)) true (slotExists (sheetIn (now (t .entry)))) ⌝ }
+{
     match home(t, v) {
         FoundSlot::At(s) => slot_exists(t, s),
         FoundSlot::Nothing => true,
     }
 }
 
-fn homes_named(t: &[u32]) -> bool {
+fn homes_named(t: &[u32]) -> bool
+    ensures { λ x. ⌜ x ≡ all (λ h. Option·elim h true (slotExists (sheetIn (now (t .entry))))) (sheetIn (now (t .entry)) .values) ⌝ }
+{
     let rows = count(t, Kind::VALUE);
     let mut v: u32 = 0;
     while v < rows {
@@ -182,11 +227,15 @@ fn homes_named(t: &[u32]) -> bool {
     true
 }
 
-fn vgroup_named(t: &[u32], g: ValueGroup) -> bool {
+fn vgroup_named(t: &[u32], g: ValueGroup) -> bool
+    ensures { λ x. ⌜ x ≡ all (valueExists (sheetIn (now (t .entry)))) (valuesOf (sheetIn (now (t .entry))) (g .0)) ⌝ }
+{
     all_below(group_values(t, g), count(t, Kind::VALUE))
 }
 
-fn vgroups_named(t: &[u32]) -> bool {
+fn vgroups_named(t: &[u32]) -> bool
+    ensures { λ x. ⌜ x ≡ all (λ g. all (valueExists (sheetIn (now (t .entry)))) g) (sheetIn (now (t .entry)) .vgroups) ⌝ }
+{
     let rows = count(t, Kind::VGROUP);
     let mut g: u32 = 0;
     while g < rows {
@@ -198,14 +247,18 @@ fn vgroups_named(t: &[u32]) -> bool {
     true
 }
 
-fn idom_named(t: &[u32], b: Block) -> bool {
+fn idom_named(t: &[u32], b: Block) -> bool
+    ensures { λ x. ⌜ x ≡ Option·elim (blockRow (sheetIn (now (t .entry))) (b .0) .idom) true (blockExists (sheetIn (now (t .entry)))) ⌝ }
+{
     match idom(t, b) {
         FoundBlock::At(i) => block_exists(t, i),
         FoundBlock::Nothing => true,
     }
 }
 
-fn idoms_named(t: &[u32]) -> bool {
+fn idoms_named(t: &[u32]) -> bool
+    ensures { λ x. ⌜ x ≡ all (λ b. Option·elim (b .idom) true (blockExists (sheetIn (now (t .entry))))) (sheetIn (now (t .entry)) .blocks) ⌝ }
+{
     let rows = count(t, Kind::BLOCK);
     let mut b: u32 = 0;
     while b < rows {
@@ -218,12 +271,16 @@ fn idoms_named(t: &[u32]) -> bool {
 }
 
 // A `succ` or `pred` row.
-fn edge_named(t: &[u32], row: &[u32]) -> bool {
+fn edge_named(t: &[u32], row: &[u32]) -> bool
+    ensures { λ x. ⌜ x ≡ edgeNamed (sheetIn (now (t .entry))) (listRow (now (row .entry))) ⌝ }
+{
     let list = all_below(rest(row, 2), count(t, Kind::BLOCK));
     both(block_exists(t, Block(read_u32(row, 1))), list)
 }
 
-fn succs_named(t: &[u32]) -> bool {
+fn succs_named(t: &[u32]) -> bool
+    ensures { λ x. ⌜ x ≡ all (edgeNamed (sheetIn (now (t .entry)))) (sheetIn (now (t .entry)) .succs) ⌝ }
+{
     let rows = count(t, Kind::SUCC);
     let mut n: u32 = 0;
     while n < rows {
@@ -235,7 +292,9 @@ fn succs_named(t: &[u32]) -> bool {
     true
 }
 
-fn preds_named(t: &[u32]) -> bool {
+fn preds_named(t: &[u32]) -> bool
+    ensures { λ x. ⌜ x ≡ all (edgeNamed (sheetIn (now (t .entry)))) (sheetIn (now (t .entry)) .preds) ⌝ }
+{
     let rows = count(t, Kind::PRED);
     let mut n: u32 = 0;
     while n < rows {
@@ -247,14 +306,18 @@ fn preds_named(t: &[u32]) -> bool {
     true
 }
 
-fn param_named(t: &[u32], n: u32) -> bool {
+fn param_named(t: &[u32], n: u32) -> bool
+    ensures { λ x. ⌜ x ≡ paramNamed (sheetIn (now (t .entry))) (paramRow (sheetIn (now (t .entry))) n) ⌝ }
+{
     let p = param_at(t, n);
     let place = p.place;
     let names = both(block_exists(t, p.at), value_exists(t, p.value));
     both(names, place_exists(t, place))
 }
 
-fn params_named(t: &[u32]) -> bool {
+fn params_named(t: &[u32]) -> bool
+    ensures { λ x. ⌜ x ≡ all (paramNamed (sheetIn (now (t .entry)))) (sheetIn (now (t .entry)) .params) ⌝ }
+{
     let rows = count(t, Kind::PARAM);
     let mut n: u32 = 0;
     while n < rows {
@@ -267,7 +330,9 @@ fn params_named(t: &[u32]) -> bool {
 }
 
 // Where there are `insts` instructions; so below.
-fn op_named(t: &[u32], insts: u32, n: OperandRow) -> bool {
+fn op_named(t: &[u32], insts: u32, n: OperandRow) -> bool
+    ensures { λ x. ⌜ x ≡ opNamed (sheetIn (now (t .entry))) insts (opRow (sheetIn (now (t .entry))) (n .0)) ⌝ }
+{
     let o = operand_at(t, n);
     let i = o.at;
     let kind = o.kind;
@@ -278,7 +343,9 @@ fn op_named(t: &[u32], insts: u32, n: OperandRow) -> bool {
     both(names, place_exists(t, place))
 }
 
-fn ops_named(t: &[u32], insts: u32) -> bool {
+fn ops_named(t: &[u32], insts: u32) -> bool
+    ensures { λ x. ⌜ x ≡ all (opNamed (sheetIn (now (t .entry))) insts) (sheetIn (now (t .entry)) .ops) ⌝ }
+{
     let rows = count(t, Kind::OP);
     let mut n: u32 = 0;
     while n < rows {
@@ -290,17 +357,21 @@ fn ops_named(t: &[u32], insts: u32) -> bool {
     true
 }
 
-fn clob_named(t: &[u32], insts: u32, all: UnitSet, n: u32) -> bool {
+fn clob_named(t: &[u32], insts: u32, units: UnitSet, n: u32) -> bool
+    ensures { λ x. ⌜ x ≡ clobNamed (has (units .0)) insts (listRow (kindRow (now (t .entry)) 11 n)) ⌝ }
+{
     let row = row_of(t, Kind::CLOB, n);
-    let s = all.0;
+    let s = units.0;
     both(read_u32(row, 1) < insts, all_in(rest(row, 2), s))
 }
 
-fn clobs_named(t: &[u32], insts: u32, all: UnitSet) -> bool {
+fn clobs_named(t: &[u32], insts: u32, units: UnitSet) -> bool
+    ensures { λ x. ⌜ x ≡ all (clobNamed (has (units .0)) insts) (sheetIn (now (t .entry)) .clobs) ⌝ }
+{
     let rows = count(t, Kind::CLOB);
     let mut n: u32 = 0;
     while n < rows {
-        if !clob_named(t, insts, all, n) {
+        if !clob_named(t, insts, units, n) {
             return false;
         }
         n += 1;
@@ -308,12 +379,16 @@ fn clobs_named(t: &[u32], insts: u32, all: UnitSet) -> bool {
     true
 }
 
-fn edit_named(t: &[u32], insts: u32, n: EditRow) -> bool {
+fn edit_named(t: &[u32], insts: u32, n: EditRow) -> bool
+    ensures { λ x. ⌜ x ≡ editNamed (sheetIn (now (t .entry))) insts (editRow (sheetIn (now (t .entry))) (n .0)) ⌝ }
+{
     let i = edit_at(t, n);
     both(i.0 < insts, edit_names(t, sheet_edit(t, n)))
 }
 
-fn edits_named(t: &[u32], insts: u32) -> bool {
+fn edits_named(t: &[u32], insts: u32) -> bool
+    ensures { λ x. ⌜ x ≡ all (editNamed (sheetIn (now (t .entry))) insts) (sheetIn (now (t .entry)) .edits) ⌝ }
+{
     let rows = count(t, Kind::EDIT);
     let mut n: u32 = 0;
     while n < rows {
@@ -325,7 +400,9 @@ fn edits_named(t: &[u32], insts: u32) -> bool {
     true
 }
 
-fn machine_named(t: &[u32]) -> bool {
+fn machine_named(t: &[u32]) -> bool
+    ensures { λ x. ⌜ x ≡ machineNamed (sheetIn (now (t .entry))) ⌝ }
+{
     if !classes_named(t) {
         return false;
     }
@@ -338,18 +415,22 @@ fn machine_named(t: &[u32]) -> bool {
     vgroups_named(t)
 }
 
-fn code_named(t: &[u32], insts: u32, all: UnitSet) -> bool {
+fn code_named(t: &[u32], insts: u32, units: UnitSet) -> bool
+    ensures { λ x. ⌜ x ≡ codeNamed (sheetIn (now (t .entry))) (has (units .0)) insts ⌝ }
+{
     if !ops_named(t, insts) {
         return false;
     }
-    if !clobs_named(t, insts, all) {
+    if !clobs_named(t, insts, units) {
         return false;
     }
     edits_named(t, insts)
 }
 
 // A row names nothing that is absent.
-fn all_named(t: &[u32]) -> bool {
+fn all_named(t: &[u32]) -> bool
+    ensures { λ x. ⌜ (withinLimits (sheetIn (now (t .entry))) ≡ true → x ≡ allNamed (sheetIn (now (t .entry)))) ⌝ }
+{
     if !machine_named(t) {
         return false;
     }
@@ -369,7 +450,9 @@ fn all_named(t: &[u32]) -> bool {
 }
 
 // No list of the kind, from field `from` on, has one thing twice.
-fn none_twice_in(t: &[u32], k: Kind, from: usize) -> bool {
+fn none_twice_in(t: &[u32], k: Kind, from: usize) -> bool
+    ensures { λ x. ⌜ (all (λ r. all (λ y. ltb y setLimit) (drop from r)) (rowsAt (now (t .entry)) (k .0)) ≡ true → x ≡ all (λ r. not (twice (drop from r))) (rowsAt (now (t .entry)) (k .0))) ⌝ }
+{
     let rows = count(t, k);
     let mut n: u32 = 0;
     while n < rows {
@@ -381,7 +464,9 @@ fn none_twice_in(t: &[u32], k: Kind, from: usize) -> bool {
     true
 }
 
-fn none_twice(t: &[u32]) -> bool {
+fn none_twice(t: &[u32]) -> bool
+    ensures { λ x. ⌜ (withinLimits (sheetIn (now (t .entry))) ≡ true → allNamed (sheetIn (now (t .entry))) ≡ true → x ≡ noneTwice (sheetIn (now (t .entry)))) ⌝ }
+{
     if !none_twice_in(t, Kind::REG, 3) {
         return false;
     }
@@ -404,25 +489,26 @@ fn none_twice(t: &[u32]) -> bool {
 }
 
 // The group is of class c and begins with register r.
-pub fn headed_by(t: &[u32], g: RegGroup, c: RegClass, r: PhysReg) -> bool {
+pub fn headed_by(t: &[u32], g: RegGroup, c: RegClass, r: PhysReg) -> bool
+    ensures { λ x. ⌜ x ≡ headedBy (c .0) (r .0) (groupRow (sheetIn (now (t .entry))) (g .0)) ⌝ }
+{
     let class = group_class(t, g);
     both(class.0 == c.0, read_u32(group_regs(t, g), 0) == r.0)
 }
 
-// Group h comes not after group g, or has another class or first register.
-fn head_apart(t: &[u32], g: RegGroup, h: RegGroup) -> bool {
-    if h.0 <= g.0 {
+// No later group has the class and the first register of group g.
+fn apart_from_later(t: &[u32], g: RegGroup) -> bool
+    ensures { λ x. ⌜ x ≡ not (any (headedBy (groupRow (sheetIn (now (t .entry))) (g .0) .class) (getD (groupRow (sheetIn (now (t .entry))) (g .0) .regs) 0 0)) (drop (g .0 + 1) (sheetIn (now (t .entry)) .groups))) ⌝ }
+{
+    let rows = count(t, Kind::GROUP);
+    if rows <= g.0 {
         return true;
     }
-    let r = read_u32(group_regs(t, g), 0);
-    !headed_by(t, h, group_class(t, g), PhysReg(r))
-}
-
-fn apart_from_later(t: &[u32], g: RegGroup) -> bool {
-    let rows = count(t, Kind::GROUP);
-    let mut h: u32 = 0;
+    let class = group_class(t, g);
+    let reg = PhysReg(read_u32(group_regs(t, g), 0));
+    let mut h: u32 = g.0 + 1;
     while h < rows {
-        if !head_apart(t, g, RegGroup(h)) {
+        if headed_by(t, RegGroup(h), class, reg) {
             return false;
         }
         h += 1;
@@ -430,7 +516,9 @@ fn apart_from_later(t: &[u32], g: RegGroup) -> bool {
     true
 }
 
-fn heads_apart(t: &[u32]) -> bool {
+fn heads_apart(t: &[u32]) -> bool
+    ensures { λ x. ⌜ x ≡ headsApart (sheetIn (now (t .entry)) .groups) ⌝ }
+{
     let rows = count(t, Kind::GROUP);
     let mut g: u32 = 0;
     while g < rows {
@@ -442,7 +530,9 @@ fn heads_apart(t: &[u32]) -> bool {
     true
 }
 
-pub fn names_hold(t: &[u32]) -> bool {
+pub fn names_hold(t: &[u32]) -> bool
+    ensures { λ x. ⌜ (withinLimits (sheetIn (now (t .entry))) ≡ true → x ≡ namesHold (sheetIn (now (t .entry)))) ⌝ }
+{
     if !all_named(t) {
         return false;
     }

@@ -43,15 +43,15 @@ pub in-drop : (j : ℕ) (l : List Item) → RowIn j l → (i : ℕ) × (r : List
 in-drop j [] h = absurd h
 in-drop j (x ∷ l) h = ⊎-elim (λ e. (0, l, ap (λ y. y ∷ l) e)) (λ y. let w = in-drop j l y in (suc (w .0), w .1, w .2)) h
 
-in-append : (j : ℕ) (l m : List Item) → RowIn j (l ++ m) → RowIn j l ⊎ RowIn j m
+pub in-append : (j : ℕ) (l m : List Item) → RowIn j (l ++ m) → RowIn j l ⊎ RowIn j m
 in-append j [] m h = inr h
 in-append j (x ∷ l) m h = ⊎-elim (λ e. inl (inl e)) (λ y. ⊎-elim (λ a. inl (inr a)) inr (in-append j l m y)) h
 
-in-left : (j : ℕ) (l m : List Item) → RowIn j l → RowIn j (l ++ m)
+pub in-left : (j : ℕ) (l m : List Item) → RowIn j l → RowIn j (l ++ m)
 in-left j [] m h = absurd h
 in-left j (x ∷ l) m h = ⊎-elim inl (λ y. inr (in-left j l m y)) h
 
-in-right : (j : ℕ) (l m : List Item) → RowIn j m → RowIn j (l ++ m)
+pub in-right : (j : ℕ) (l m : List Item) → RowIn j m → RowIn j (l ++ m)
 in-right j [] m h = h
 in-right j (x ∷ l) m h = inr (in-right j l m h)
 
@@ -67,7 +67,7 @@ same-place j (x ∷ l) a zero (suc i′) r r′ q q′ = absurd (a .0 j (cc) (dr
 same-place j (x ∷ l) a (suc i) zero r r′ q q′ = absurd (a .0 j (cc) (drop-in j l i r q))
 same-place j (x ∷ l) a (suc i) (suc i′) r r′ q q′ = ap (λ n. suc n) (same-place j l (a .1) i i′ r r′ q q′)
 
-in-map : (j : ℕ) (js : List ℕ) → RowIn j (map row js) ↔ In j js
+pub in-map : (j : ℕ) (js : List ℕ) → RowIn j (map row js) ↔ In j js
 in-map j [] = (λ h. h, λ h. h)
 in-map j (x ∷ js) = let ih = in-map j js in (⊎-elim (λ e. inl (cc)) (λ y. inr (ih .0 y)), ⊎-elim (λ e. inl (cc)) (λ y. inr (ih .1 y)))
 
@@ -123,7 +123,7 @@ module _ (sh : Sheet) where
   unfolding editsAt
   at-rows k = rows-fresh k (sh .edits) 0
 
-  here : (k j : ℕ) → RowIn j (map row (editsAt sh k)) → (instructionOf sh j ≡ k) × (j < length (sh .edits))
+  pub here : (k j : ℕ) → RowIn j (map row (editsAt sh k)) → (instructionOf sh j ≡ k) × (j < length (sh .edits))
   unfolding editsAt
   here k j h =
       let w = rows-in k (sh .edits) 0 j (in-map j (rowsAt k 0 (sh .edits)) .0 h) in
@@ -153,7 +153,7 @@ module _ (sh : Sheet) where
       fresh-append (map row (editsAt sh k)) (ins k ∷ []) (at-rows k) (λ j q h. absurd h, tt)
       (λ j y. ⊎-elim (λ q. let z : _≡_ {A = ℕ} 0 1 = cc in absurd (omega arith)) (λ h. absurd h))
 
-  items-in : (n k j : ℕ) → RowIn j (itemsOf (from k n)) → (k ≤ instructionOf sh j) × (instructionOf sh j < k + n) × (j < length (sh .edits))
+  pub items-in : (n k j : ℕ) → RowIn j (itemsOf (from k n)) → (k ≤ instructionOf sh j) × (instructionOf sh j < k + n) × (j < length (sh .edits))
   unfolding flatMap from
   items-in zero k j h = absurd h
   items-in (suc n) k j h =

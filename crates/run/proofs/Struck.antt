@@ -61,7 +61,7 @@ drop-map g (suc n) [] = refl
 drop-map g (suc n) (x ∷ l) = drop-map g n l
 
 module _ (sh : Sheet) (places : List Place) (es : List Edit) where
-  items-length : (l : List Item) (A : List ℕ) (c : List Edit) → length (strikeItems sh places es l A c) ≡ length c
+  pub items-length : (l : List Item) (A : List ℕ) (c : List Edit) → length (strikeItems sh places es l A c) ≡ length c
   unfolding strikeItems
   items-length [] A c = refl
   items-length (row j ∷ l) A c = length-set (strikeItems sh places es l A c) j _ ∙ items-length l A c
@@ -79,7 +79,7 @@ module _ (sh : Sheet) (places : List Place) (es : List Edit) where
 
   module _ (j : ℕ) where
     -- a row that is not in the block is as it was
-    items-other : (l : List Item) (A : List ℕ) (c : List Edit) → (RowIn j l → ⊥) → getD (strikeItems sh places es l A c) j Nothing ≡ getD c j Nothing
+    pub items-other : (l : List Item) (A : List ℕ) (c : List Edit) → (RowIn j l → ⊥) → getD (strikeItems sh places es l A c) j Nothing ≡ getD c j Nothing
     unfolding strikeItems
     items-other [] A c n = refl
     items-other (row k ∷ l) A c n =
@@ -151,7 +151,7 @@ computed-rows sh places es A ends b i j (stands {l = r} q) =
     let n′ = List·getD-eq-default (strikeBlocks sh places es A) Nothing u′ in
     rw (n, n′) (kept (λ s x. absurd x) refl))
 
-func-many : (sh : Sheet) (places : List Place) (es : List Edit) → length (funcOf sh places es .succs) ≤ length (funcOf sh places es .blocks)
+pub func-many : (sh : Sheet) (places : List Place) (es : List Edit) → length (funcOf sh places es .succs) ≤ length (funcOf sh places es .blocks)
 unfolding funcOf
 func-many sh places es = simp (length-map, length-from) (omega arith)
 

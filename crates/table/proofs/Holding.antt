@@ -2,7 +2,7 @@
 use mathlib.Core.Path.{_≡_, refl, sym, _∙_, ap, subst}
 use mathlib.Core.List.{List, [], _∷_, _++_, append-assoc}
 use Prim.Native.Nat.{ℕ, zero, suc, _+_, _-_, _<_, _≤_}
-use native.Mathlib.Nat.{add-assoc}
+use native.Mathlib.Nat.{add-assoc, add-zero}
 use native.Mathlib.Numerals.{add-one}
 use native.Mathlib.Omega.{arith}
 use lib.ListN.{length, getD, take, drop, length-append, take-append-drop, drop-of-length-le}
@@ -31,6 +31,11 @@ row-at (r ∷ rs) pre tl a (suc i) e h =
     subst (λ (l : List ℕ). take (length (getD rs i [])) (drop (getD (offsets (a + length r) rs) i 0) l) ≡ getD rs i [])
     (rw (append-assoc, append-assoc)) (row-at rs (pre ++ r) tl (a + length r) i (rw (length-append, e)) (omega arith))
 
+last-offset : (a : ℕ) (rs : List (List ℕ)) → getD (offsets a rs) (length rs) 0 ≡ a + length (flatten rs)
+unfolding offsets flatten
+last-offset a [] = omega arith
+last-offset a (r ∷ rs) = last-offset (a + length r) rs ∙ omega (arith, length-append r (flatten rs))
+
 module _ {rs : List (List ℕ)} {t : List ℕ} (h : Holds rs t) where
   cells-split : flatten rs ++ drop (length (flatten rs)) t ≡ t
   cells-split = ap (λ (l : List ℕ). l ++ drop (length (flatten rs)) t) (sym (h .cells-begin)) ∙ take-append-drop (length (flatten rs)) t
@@ -45,6 +50,19 @@ module _ {rs : List (List ℕ)} {t : List ℕ} (h : Holds rs t) where
       ap (λ (j : ℕ). getD t j 0) (add-assoc 32768 i 1)
       ∙ start-is (i + 1) (omega arith) ∙ ap (λ (j : ℕ). getD (offsets 0 rs) j 0) (add-one i) ∙ offset-next rs 0 i l
       ∙ ap (λ (x : ℕ). x + length (getD rs i [])) (sym (start-is i (omega arith)))
+
+  -- rows start one after the other, within the cells
+  pub start-later : (i d : ℕ) → i + d ≤ length rs → getD t (32768 + i) 0 ≤ getD t (32768 + (i + d)) 0
+  start-later i zero l = rw (add-zero i) (omega arith)
+  start-later i (suc d) l =
+      let e : 32768 + (i + suc d) ≡ 32768 + (i + d) + 1 = omega arith in
+      rw e (omega (arith, start-later i d (omega arith), width-is (i + d) (omega arith)))
+
+  pub start-within : (i : ℕ) → i ≤ length rs → getD t (32768 + i) 0 ≤ 32768
+  start-within i l =
+      let e : i + (length rs - i) ≡ length rs = omega arith in
+      let a : getD t (32768 + i) 0 ≤ getD t (32768 + length rs) 0 = rw e at (start-later i (length rs - i) (omega arith)) in
+      omega (arith, a, start-is (length rs) (omega arith), last-offset 0 rs, h .few-cells)
 
   -- THE REPRESENTATION
   pub row-is : (i : ℕ) → i < length rs → rowIn t i ≡ getD rs i []

@@ -85,9 +85,12 @@ module _ (rs : List (List ℕ)) (up : Rising rs) where
           (λ h. h)
 
 module _ {rs : List (List ℕ)} {t : List ℕ} (x : Indexed rs t) where
-  begin-is : (k : ℕ) → k < 14 → getD t (54616 + k) 0 ≡ before k rs
+  pub begin-is : (k : ℕ) → k < 14 → getD t (54616 + k) 0 ≡ before k rs
   begin-is k h =
       sym (getD-take 14 (drop 54616 t) k 0 h ∙ getD-drop 54616 t k 0) ∙ ap (λ (l : List ℕ). getD l k 0) (x .kinds-begin) ∙ begin-at rs k h
+
+  pub begin-within : (k : ℕ) → k < 14 → getD t (54616 + k) 0 ≤ length rs
+  begin-within k h = rw (begin-is k h) (parts rs (x .rising) k .within)
 
   end-is : (k : ℕ) → k < 13 → getD t (54616 + k + 1) 0 ≡ before (k + 1) rs
   end-is k h = ap (λ (j : ℕ). getD t j 0) (add-assoc 54616 k 1) ∙ begin-is (k + 1) (omega arith)

@@ -1,12 +1,15 @@
 -- Edits and operand places in cells, as the optimizer and the sweep alter them: four cells an edit, kind, to, from and value, and one a place.
 use mathlib.Core.List.{List, [], _∷_, map}
-use Prim.Native.Nat.{ℕ, _+_, _*_}
+use Prim.Native.Nat.{ℕ, _+_, _*_, _<_}
 use lib.ListN.{getD, set}
 use Rattle.laws.specs.Lists.{from}
 use Rattle.entity.specs.declared.forms.Place.{Place}
+use Rattle.entity.specs.declared.forms.Place.the-variants.{Reg, Slot}
 use Rattle.entity.specs.declared.forms.Edit.{Edit}
+use Rattle.entity.specs.declared.forms.Edit.the-variants.{Move, Remat, Espill, Ereload, Misplaced, Nothing}
 use Rattle.rules.specs.Sheet.{placeOf, editOf}
 use Rattle.rules.specs.Answer.{editCells}
+use Rattle.table.specs.Rows.{kindRow}
 
 -- edit j; and the first n
 unfoldable pub editIn : List ℕ → ℕ → Edit
@@ -27,3 +30,20 @@ placeIn cells j = placeOf (getD cells j 0)
 
 unfoldable pub placesIn : List ℕ → ℕ → List Place
 placesIn cells n = map (placeIn cells) (from 0 n)
+
+-- the edit that row n of the sheet's edits says
+unfoldable pub editAtRow : List ℕ → ℕ → Edit
+editAtRow t n = let r = kindRow t 12 n in editOf (getD r 2 0) (getD r 3 0) (getD r 4 0) (getD r 5 0)
+
+-- "at most five digits": the numbers in a place and in an edit are below 100000
+abbrev pub SmallPlace : Place → Type 0
+SmallPlace (Reg r) = r .0 < 100000
+SmallPlace (Slot s) = s .0 < 100000
+
+abbrev pub SmallEdit : Edit → Type 0
+SmallEdit (Move to p v) = SmallPlace to × SmallPlace p
+SmallEdit (Remat to v) = SmallPlace to
+SmallEdit (Espill s r) = SmallPlace (Slot s) × SmallPlace (Reg r)
+SmallEdit (Ereload r s) = SmallPlace (Reg r) × SmallPlace (Slot s)
+SmallEdit (Misplaced to p) = Unit {0}
+SmallEdit Nothing = Unit {0}

@@ -1,5 +1,11 @@
 // The edits as four cells each, kind, to, from and value: read as enums, and written back.
-ghost use Prim.Native.Nat.{_<_};
+ghost use mathlib.Core.Path.{_≡_};
+ghost use lib.ListN.{getD, set};
+ghost use Prim.Native.Nat.{_+_, _*_, _<_};
+ghost use Rattle.rules.specs.Answer.{placeCell};
+ghost use Rattle.rules.specs.Sheet.{espillOf, ereloadOf, editOf};
+ghost use Rattle.table.specs.Rows.{kindRow};
+ghost use Rattle.table.specs.Edits.{editIn, withEdit, editAtRow, SmallPlace, SmallEdit};
 use crate::rows::Kind;
 use crate::rows::row_of;
 use crate::view::DASH;
@@ -24,7 +30,9 @@ const ERELOAD: u32 = 100024;
 
 const NONE: u32 = 100025;
 
-fn espill_of(to: Place, from: Place) -> Edit {
+fn espill_of(to: Place, from: Place) -> Edit
+    ensures { λ e. ⌜ e ≡ espillOf to from ⌝ }
+{
     match to {
         Place::Slot(s) => match from {
             Place::Reg(r) => Edit::Espill { to: s, from: r },
@@ -34,7 +42,9 @@ fn espill_of(to: Place, from: Place) -> Edit {
     }
 }
 
-fn ereload_of(to: Place, from: Place) -> Edit {
+fn ereload_of(to: Place, from: Place) -> Edit
+    ensures { λ e. ⌜ e ≡ ereloadOf to from ⌝ }
+{
     match to {
         Place::Reg(r) => match from {
             Place::Slot(s) => Edit::Ereload { to: r, from: s },
@@ -44,7 +54,9 @@ fn ereload_of(to: Place, from: Place) -> Edit {
     }
 }
 
-pub fn edit_of(k: u32, to: u32, from: u32, value: u32) -> Edit {
+pub fn edit_of(k: u32, to: u32, from: u32, value: u32) -> Edit
+    ensures { λ e. ⌜ e ≡ editOf k to from value ⌝ }
+{
     match k {
         MOVE => Edit::Move {
             to: place_of(to),
@@ -61,7 +73,9 @@ pub fn edit_of(k: u32, to: u32, from: u32, value: u32) -> Edit {
     }
 }
 
-pub fn place_cell(p: Place) -> u32 {
+pub fn place_cell(p: Place) -> u32
+    ensures { λ c. ⌜ (SmallPlace p → c ≡ placeCell p) ⌝ }
+{
     match p {
         Place::Reg(r) => cell(200000, r.0),
         Place::Slot(s) => cell(300000, s.0),
@@ -71,11 +85,14 @@ pub fn place_cell(p: Place) -> u32 {
 // A number with its mark; numbers have five digits at most.
 fn cell(mark: u32, n: u32) -> u32
     requires { ⌜ mark < 1000000 ⌝ }
+    ensures { λ c. ⌜ (n < 100000 → c ≡ mark + n) ⌝ }
 {
     mark + n % 100000
 }
 
-pub fn read_edit(edits: &[u32], n: EditRow) -> Edit {
+pub fn read_edit(edits: &[u32], n: EditRow) -> Edit
+    ensures { λ e. ⌜ e ≡ editIn (now (edits .entry)) (n .0) ⌝ }
+{
     let at = n.0 as usize * 4;
     edit_of(
         read_u32(edits, at),
@@ -85,7 +102,9 @@ pub fn read_edit(edits: &[u32], n: EditRow) -> Edit {
     )
 }
 
-fn store_cells(edits: &mut [u32], n: EditRow, kind: u32, to: u32, from: u32, value: u32) {
+fn store_cells(edits: &mut [u32], n: EditRow, kind: u32, to: u32, from: u32, value: u32)
+    ensures { λ _. ⌜ now (edits .exit) ≡ set (set (set (set (now (edits .entry)) (n .0 * 4) kind) (n .0 * 4 + 1) to) (n .0 * 4 + 2) from) (n .0 * 4 + 3) value ⌝ }
+{
     let at = n.0 as usize * 4;
     store_u32(edits, at, kind);
     store_u32(edits, at + 1, to);
@@ -93,7 +112,9 @@ fn store_cells(edits: &mut [u32], n: EditRow, kind: u32, to: u32, from: u32, val
     store_u32(edits, at + 3, value);
 }
 
-pub fn store_edit(edits: &mut [u32], n: EditRow, e: Edit) {
+pub fn store_edit(edits: &mut [u32], n: EditRow, e: Edit)
+    ensures { λ _. ⌜ (SmallEdit e → now (edits .exit) ≡ withEdit (now (edits .entry)) (n .0) e) ⌝ }
+{
     match e {
         Edit::Move { to, from, value } => {
             store_cells(edits, n, MOVE, place_cell(to), place_cell(from), value.0)
@@ -125,7 +146,9 @@ pub fn store_edit(edits: &mut [u32], n: EditRow, e: Edit) {
 }
 
 // Row n of the edits as it stands in the sheet.
-pub fn sheet_edit(t: &[u32], n: EditRow) -> Edit {
+pub fn sheet_edit(t: &[u32], n: EditRow) -> Edit
+    ensures { λ e. ⌜ e ≡ editAtRow (now (t .entry)) (n .0) ⌝ }
+{
     let row = row_of(t, Kind::EDIT, n.0);
     edit_of(
         read_u32(row, 2),

@@ -1,6 +1,18 @@
 // The index of the rows: each block's first instruction, and where the rows of each block or instruction begin among those of their kind.
 // It is filled once rows and limits hold: `first` fields stand in order then, but for edits, which are looked up only once 6 holds.
-ghost use Prim.Native.Nat.{_<_};
+ghost use mathlib.Core.Path.{_≡_};
+ghost use mathlib.Core.Bool.{true, _&&_};
+ghost use mathlib.Core.List.{List};
+ghost use Prim.Native.Nat.{ℕ, _+_, _<_, _≤_};
+ghost use lib.Dec.{ltb};
+ghost use lib.ListN.{length, getD, take};
+ghost use Rattle.entity.specs.Limits.{blockLimit, instLimit};
+ghost use Rattle.rules.specs.Rows.{first};
+ghost use Rattle.rules.specs.Sheet.{totalOf, sheetOf};
+ghost use Rattle.rules.specs.Accept.{withinLimits};
+ghost use Rattle.table.specs.Rows.{kindRow};
+ghost use Rattle.table.specs.Table.{Indexed};
+ghost use Rattle.table.specs.Index.{before, ofKind, Filled, Built, rangeIn};
 use crate::INDEX;
 use crate::rows::Kind;
 use crate::rows::count;
@@ -31,20 +43,27 @@ pub struct Range {
     pub to: u32,
 }
 
-// The first field of row n of a kind.
-fn key(t: &[u32], k: Kind, n: u32) -> u32 {
-    read_u32(row_of(t, k, n), 1)
+// Row n of a kind, if the kind has `rows` rows, is there and its first field is below x.
+fn comes_before(t: &[u32], k: Kind, rows: u32, n: u32, x: u32) -> bool
+    ensures { λ r. ⌜ r ≡ (ltb n rows && ltb (first (kindRow (now (t .entry)) (k .0) n)) x) ⌝ }
+{
+    if n < rows {
+        return read_u32(row_of(t, k, n), 1) < x;
+    }
+    false
 }
 
 // At each x up to `most`: how many of the kind's rows come before the first whose first field is x or more.
 fn fill(t: &mut [u32], k: Kind, at: usize, most: u32)
-    requires { ⌜ (at < 60000) × (most < 1000) ⌝ }
+    requires { ⌜ (k .0 < 13) × (54630 ≤ at) × (at < 60000) × (most < 1000) ⌝ }
+    ensures { λ _. ⌜ ((rs : List (List ℕ)) → Indexed rs (now (t .entry)) → at + most < length (now (t .entry))
+        → Filled rs at (λ x. before x (ofKind (k .0) rs)) (most + 1) (now (t .entry)) (now (t .exit))) ⌝ }
 {
     let rows = count(t, k);
     let mut x: u32 = 0;
     let mut n: u32 = 0;
     while x <= most {
-        if n < rows && key(t, k, n) < x {
+        if comes_before(t, k, rows, n, x) {
             n += 1;
         } else {
             store_u32(t, at + x as usize, n);
@@ -54,7 +73,10 @@ fn fill(t: &mut [u32], k: Kind, at: usize, most: u32)
 }
 
 // Each block's first instruction, and after the last block their number.
-fn fill_insts(t: &mut [u32]) {
+fn fill_insts(t: &mut [u32])
+    ensures { λ _. ⌜ ((rs : List (List ℕ)) → Indexed rs (now (t .entry)) → totalOf (sheetOf rs .blocks) ≤ instLimit → 54696 < length (now (t .entry))
+        → Filled rs 54632 (λ b. totalOf (take b (sheetOf rs .blocks))) (blockLimit + 1) (now (t .entry)) (now (t .exit))) ⌝ }
+{
     let mut b: u32 = 0;
     let mut sum: u32 = 0;
     while b <= Block::LIMIT {
@@ -65,7 +87,10 @@ fn fill_insts(t: &mut [u32]) {
     }
 }
 
-pub fn build(t: &mut [u32]) {
+pub fn build(t: &mut [u32])
+    ensures { λ _. ⌜ ((rs : List (List ℕ)) → Indexed rs (now (t .entry)) → withinLimits (sheetOf rs) ≡ true → 56536 ≤ length (now (t .entry))
+        → Indexed rs (now (t .exit)) × Built (now (t .exit))) ⌝ }
+{
     fill_insts(t);
     fill(t, Kind::SUCC, SUCCS, Block::LIMIT);
     fill(t, Kind::PRED, PREDS, Block::LIMIT);
@@ -78,6 +103,7 @@ pub fn build(t: &mut [u32]) {
 // The part of the index at `at` for x, or nothing where x is past `most`.
 fn between(t: &[u32], at: usize, most: u32, x: u32) -> Range
     requires { ⌜ at < 60000 ⌝ }
+    ensures { λ r. ⌜ r ≡ rangeIn (now (t .entry)) at most x ⌝ }
 {
     if x < most {
         let i = at + x as usize;
@@ -91,30 +117,44 @@ fn between(t: &[u32], at: usize, most: u32, x: u32) -> Range
 }
 
 // The instructions of a block.
-pub fn insts_of(t: &[u32], b: Block) -> Range {
+pub fn insts_of(t: &[u32], b: Block) -> Range
+    ensures { λ r. ⌜ r ≡ rangeIn (now (t .entry)) 54632 blockLimit (b .0) ⌝ }
+{
     between(t, INSTS, Block::LIMIT, b.0)
 }
 
-pub fn succ_rows(t: &[u32], b: Block) -> Range {
+pub fn succ_rows(t: &[u32], b: Block) -> Range
+    ensures { λ r. ⌜ r ≡ rangeIn (now (t .entry)) 54712 blockLimit (b .0) ⌝ }
+{
     between(t, SUCCS, Block::LIMIT, b.0)
 }
 
-pub fn pred_rows(t: &[u32], b: Block) -> Range {
+pub fn pred_rows(t: &[u32], b: Block) -> Range
+    ensures { λ r. ⌜ r ≡ rangeIn (now (t .entry)) 54792 blockLimit (b .0) ⌝ }
+{
     between(t, PREDS, Block::LIMIT, b.0)
 }
 
-pub fn param_rows(t: &[u32], b: Block) -> Range {
+pub fn param_rows(t: &[u32], b: Block) -> Range
+    ensures { λ r. ⌜ r ≡ rangeIn (now (t .entry)) 54872 blockLimit (b .0) ⌝ }
+{
     between(t, PARAMS, Block::LIMIT, b.0)
 }
 
-pub fn op_rows(t: &[u32], i: Inst) -> Range {
+pub fn op_rows(t: &[u32], i: Inst) -> Range
+    ensures { λ r. ⌜ r ≡ rangeIn (now (t .entry)) 54952 instLimit (i .0) ⌝ }
+{
     between(t, OPS, Inst::LIMIT, i.0)
 }
 
-pub fn clob_rows(t: &[u32], i: Inst) -> Range {
+pub fn clob_rows(t: &[u32], i: Inst) -> Range
+    ensures { λ r. ⌜ r ≡ rangeIn (now (t .entry)) 55480 instLimit (i .0) ⌝ }
+{
     between(t, CLOBS, Inst::LIMIT, i.0)
 }
 
-pub fn edit_rows(t: &[u32], i: Inst) -> Range {
+pub fn edit_rows(t: &[u32], i: Inst) -> Range
+    ensures { λ r. ⌜ r ≡ rangeIn (now (t .entry)) 56008 instLimit (i .0) ⌝ }
+{
     between(t, EDITS, Inst::LIMIT, i.0)
 }

@@ -1,33 +1,20 @@
+use Rattle.answer.proofs.Answer.{answered}
+use Rattle.answer.specs.Rows.{rendered}
+use Rattle.answer.proofs.Laying.{laid-then}
 use borrow.Author.Needs.{needs}
 use Rattle.answer.proofs.rows.render.Statement.{statement}
 use Rattle.answer.proofs.rows.render.Tie as tie
-use Rattle.answer.proofs.rows.render.Reads as reads
-use Rattle.answer.proofs.rows.render.Lts as lts
-use Rattle.answer.proofs.rows.put_counts.Reads as put-counts-reads
-use Rattle.answer.proofs.rows.put_edits.Reads as put-edits-reads
-use Rattle.answer.proofs.rows.put_folds.Reads as put-folds-reads
-
--- src/rows.rt:98:9
-put-folds-requires : tie.Need-put-folds-requires
-put-folds-requires c κs = search needs
-
--- src/rows.rt:99:9
-put-edits-requires : tie.Need-put-edits-requires
-put-edits-requires c κs = search needs
-
--- src/rows.rt:100:5
-put-counts-requires : tie.Need-put-counts-requires
-put-counts-requires c κs = search needs
-
--- src/rows.rt:97:1
-same-length : tie.Need-same-length
-same-length c = search needs
-
--- src/rows.rt:97:1
-returns : tie.Need-returns
-returns c = search needs
 
 pub render-spec : {M : Type 1} → statement M
+unfolding rendered
 render-spec =
     tie.close
-    (tie.spec put-folds-requires put-edits-requires put-counts-requires same-length returns)
+    (tie.spec
+    (λ c κs. search needs)
+    (λ c κs. search needs)
+    (λ c κs. search needs)
+    (λ c. search needs)
+    (λ c.
+    let e = c .before .before .before .before .before .before in
+    let k = e .before .before .before .before .before .before .before in
+    answered _ _ _ _ _ _ _ (λ i. k .before .before .shared-slice-known2 .given i .fits) (λ i. k .before .shared-slice-known3 .given i .fits) (λ i. k .shared-slice-known4 .given i .fits) (laid-then (laid-then (e .before .before .before .before .put-folds .ensures) (e .put-edits .ensures)) (c .before .before .put-counts .ensures))))

@@ -1,50 +1,18 @@
 use borrow.Author.Needs.{needs}
-use mathlib.Core.Path.{_≡_}
-use Prim.Native.Nat.{ℕ, _+_, _-_, _*_, _<_, _≤_}
-use lib.ListN.{length, getD}
+use mathlib.Core.Path.{_≡_, refl}
+use Prim.Native.Nat.{_-_}
+use lib.ListN.{length, take}
+use lib.Seq.{take-all}
+use Rattle.answer.specs.Text.{Laid}
+use Rattle.answer.proofs.Laying.{laid-none, laid-as, laid-next}
 use Rattle.answer.proofs.text.put_text.Statement.{statement}
 use Rattle.answer.proofs.text.put_text.Tie as tie
-use Rattle.answer.proofs.text.put_text.Reads as reads
-use Rattle.answer.proofs.text.put_text.Lts as lts
-use Rattle.answer.proofs.text.put.Reads as put-reads
 
 abbrev Inv-loop : tie.InvT-loop
-Inv-loop out₀ at text i₀ next₀ out i next = length out ≡ length out₀
+Inv-loop out₀ at text i₀ next₀ out i next = (length out ≡ length out₀) × Laid (take i text) out₀ at out next
 
 abbrev μ-loop : tie.MeasureT-loop
 μ-loop out₀ at text i₀ next₀ out i next = length text - i
-
--- src/text.rt:12:5
-loop-holds : tie.Need-loop-holds Inv-loop μ-loop
-loop-holds c = search needs
-
--- src/text.rt:13:31
-shared-slice-read-put : tie.Need-shared-slice-read-put Inv-loop μ-loop
-shared-slice-read-put c = search needs
-
--- src/text.rt:13:9
-put-requires : tie.Need-put-requires Inv-loop μ-loop
-put-requires c κs = search needs
-
--- src/text.rt:14:9
-add-i : tie.Need-add-i Inv-loop μ-loop
-add-i c = search needs
-
--- src/text.rt:12:5
-loop-less : tie.Need-loop-less Inv-loop μ-loop
-loop-less c = search needs
-
--- src/text.rt:12:5
-loop-again : tie.Need-loop-again Inv-loop μ-loop
-loop-again c = search needs
-
--- src/text.rt:9:1
-same-length : tie.Need-same-length Inv-loop μ-loop
-same-length c = search needs
-
--- src/text.rt:9:1
-returns : tie.Need-returns Inv-loop μ-loop
-returns c = search needs
 
 pub put-text-spec : {M : Type 1} → statement M
 put-text-spec =
@@ -52,11 +20,12 @@ put-text-spec =
     (tie.spec
     Inv-loop
     μ-loop
-    loop-holds
-    shared-slice-read-put
-    put-requires
-    add-i
-    loop-less
-    loop-again
-    same-length
-    returns)
+    (λ c. (search needs, laid-none _ _))
+    (λ c. search needs)
+    (λ c κs. search needs)
+    (λ c. search needs)
+    (λ c. search needs)
+    (λ c.
+    (search needs, laid-next _ _ _ _ _ _ _ _ _ (c .before .before .before .before .before .before .loop .inv .1) (c .before .before .put .ensures) (c .before .before .before .before .before .loop-test .taken) refl))
+    (λ c. search needs)
+    (λ c. laid-as (take-all _ _ (c .loop-test .left)) (c .before .loop .inv .1)))

@@ -1,57 +1,15 @@
-use borrow.Author.Needs.{needs}
-use mathlib.Core.Path.{_≡_}
-use Prim.Native.Nat.{ℕ, _+_, _-_, _*_, _<_, _≤_}
-use lib.ListN.{length, getD}
+use native.Mathlib.Omega.{arith}
+use Rattle.dead_spill_elimination.specs.Slots.{stepBack, Lows}
+use Rattle.dead_spill_elimination.proofs.Down.{Going, going-first, going-next}
+use Rattle.dead_spill_elimination.proofs.Blocks.{block-step, block-done}
 use Rattle.dead_spill_elimination.proofs.wanted.before_block.Statement.{statement}
 use Rattle.dead_spill_elimination.proofs.wanted.before_block.Tie as tie
-use Rattle.dead_spill_elimination.proofs.wanted.before_block.Reads as reads
-use Rattle.dead_spill_elimination.proofs.wanted.before_block.Lts as lts
-use Rattle.dead_spill_elimination.proofs.wanted.before_edits.Reads as before-edits-reads
-use Rattle.dead_spill_elimination.proofs.wanted.before_inst.Reads as before-inst-reads
-use Rattle.table.proofs.index.edit_rows.Reads as edit-rows-reads
-use Rattle.table.proofs.index.insts_of.Reads as insts-of-reads
 
 abbrev Inv-loop : tie.InvT-loop
-Inv-loop t edits places live₀ insts i₀ live i = Unit {0}
+Inv-loop t edits places live₀ insts i₀ live i = Going (Lows t edits places) (stepBack t edits places) insts (live₀ .0) (live .0) i
 
 abbrev μ-loop : tie.MeasureT-loop
 μ-loop t edits places live₀ insts i₀ live i = i
-
--- src/wanted.rt:127:9
-insts-of-requires : tie.Need-insts-of-requires Inv-loop μ-loop
-insts-of-requires c κs = search needs
-
--- src/wanted.rt:129:5
-loop-holds : tie.Need-loop-holds Inv-loop μ-loop
-loop-holds c = search needs
-
--- src/wanted.rt:130:9
-sub-i : tie.Need-sub-i Inv-loop μ-loop
-sub-i c = search needs
-
--- src/wanted.rt:131:36
-edit-rows-requires : tie.Need-edit-rows-requires Inv-loop μ-loop
-edit-rows-requires c κs = search needs
-
--- src/wanted.rt:131:59
-before-inst-requires : tie.Need-before-inst-requires Inv-loop μ-loop
-before-inst-requires c κs = search needs
-
--- src/wanted.rt:131:9
-before-edits-requires : tie.Need-before-edits-requires Inv-loop μ-loop
-before-edits-requires c κs = search needs
-
--- src/wanted.rt:129:5
-loop-less : tie.Need-loop-less Inv-loop μ-loop
-loop-less c = search needs
-
--- src/wanted.rt:129:5
-loop-again : tie.Need-loop-again Inv-loop μ-loop
-loop-again c = search needs
-
--- src/wanted.rt:126:1
-returns : tie.Need-returns Inv-loop μ-loop
-returns c = search needs
 
 pub before-block-spec : {M : Type 1} → statement M
 before-block-spec =
@@ -59,12 +17,12 @@ before-block-spec =
     (tie.spec
     Inv-loop
     μ-loop
-    insts-of-requires
-    loop-holds
-    sub-i
-    edit-rows-requires
-    before-inst-requires
-    before-edits-requires
-    loop-less
-    loop-again
-    returns)
+    (λ c κs. tt)
+    (λ c. going-first _ _ _ _)
+    (λ c. omega arith)
+    (λ c κs. tt)
+    (λ c κs. tt)
+    (λ c κs. tt)
+    (λ c. omega arith)
+    (λ c. going-next _ _ _ _ _ _ _ (c .before .before .before .before .before .loop .inv) (c .before .before .before .if1 .taken) (λ A l h. block-step _ _ _ _ _ _ _ A (c .before .before .edit-rows .ensures) (c .before .before-inst .ensures A) (c .before-edits .ensures) l h))
+    (λ c. block-done _ _ _ _ _ _ _ (c .before .before .before .insts-of .ensures) (c .before .before .loop .inv) (c .if1 .left)))

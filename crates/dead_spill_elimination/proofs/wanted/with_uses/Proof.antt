@@ -1,66 +1,17 @@
+use mathlib.Core.List.{_++_}
+use Prim.Native.Nat.{ℕ}
+use native.Mathlib.Omega.{arith}
 use borrow.Author.Needs.{needs}
-use mathlib.Core.Path.{_≡_}
-use Prim.Native.Nat.{ℕ, _+_, _-_, _*_, _<_, _≤_}
-use lib.ListN.{length, getD}
+use Rattle.dead_spill_elimination.specs.Slots.{Low, usesAt}
+use Rattle.dead_spill_elimination.proofs.Down.{Going, going-first, going-next, going-done}
 use Rattle.dead_spill_elimination.proofs.wanted.with_uses.Statement.{statement}
 use Rattle.dead_spill_elimination.proofs.wanted.with_uses.Tie as tie
-use Rattle.dead_spill_elimination.proofs.wanted.with_uses.Reads as reads
-use Rattle.dead_spill_elimination.proofs.wanted.with_uses.Lts as lts
-use Rattle.bits.proofs.tables.read_u32.Reads as read-u32-reads
-use Rattle.dead_spill_elimination.proofs.wanted.uses.Reads as uses-reads
-use Rattle.dead_spill_elimination.proofs.wanted.with_place.Reads as with-place-reads
-use Rattle.table.proofs.view.operand_at.Reads as operand-at-reads
-use Rattle.table.proofs.view.place_of.Reads as place-of-reads
 
 abbrev Inv-loop : tie.InvT-loop
-Inv-loop t places rows live₀ n₀ live n = Unit {0}
+Inv-loop t places rows live₀ n₀ live n = Going ((n : ℕ) → Low (usesAt t places n)) (λ n B. usesAt t places n ++ B) rows (live₀ .0) (live .0) n
 
 abbrev μ-loop : tie.MeasureT-loop
-μ-loop t places rows live₀ n₀ live n = rows .to - n
-
--- src/wanted.rt:96:5
-loop-holds : tie.Need-loop-holds Inv-loop μ-loop
-loop-holds c = search needs
-
--- src/wanted.rt:97:13
-operand-at-requires : tie.Need-operand-at-requires Inv-loop μ-loop
-operand-at-requires c κs = search needs
-
--- src/wanted.rt:99:12
-uses-requires : tie.Need-uses-requires Inv-loop μ-loop
-uses-requires c κs = search needs
-
--- src/wanted.rt:100:63
-cast-read-u32 : tie.Need-cast-read-u32 Inv-loop μ-loop
-cast-read-u32 c = search needs
-
--- src/wanted.rt:100:46
-read-u32-requires : tie.Need-read-u32-requires Inv-loop μ-loop
-read-u32-requires c κs = search needs
-
--- src/wanted.rt:100:37
-place-of-requires : tie.Need-place-of-requires Inv-loop μ-loop
-place-of-requires c κs = search needs
-
--- src/wanted.rt:100:13
-with-place-requires : tie.Need-with-place-requires Inv-loop μ-loop
-with-place-requires c κs = search needs
-
--- src/wanted.rt:102:9
-add-n : tie.Need-add-n Inv-loop μ-loop
-add-n c = search needs
-
--- src/wanted.rt:96:5
-loop-less : tie.Need-loop-less Inv-loop μ-loop
-loop-less c = search needs
-
--- src/wanted.rt:96:5
-loop-again : tie.Need-loop-again Inv-loop μ-loop
-loop-again c = search needs
-
--- src/wanted.rt:94:1
-returns : tie.Need-returns Inv-loop μ-loop
-returns c = search needs
+μ-loop t places rows live₀ n₀ live n = n
 
 pub with-uses-spec : {M : Type 1} → statement M
 with-uses-spec =
@@ -68,14 +19,9 @@ with-uses-spec =
     (tie.spec
     Inv-loop
     μ-loop
-    loop-holds
-    operand-at-requires
-    uses-requires
-    cast-read-u32
-    read-u32-requires
-    place-of-requires
-    with-place-requires
-    add-n
-    loop-less
-    loop-again
-    returns)
+    (λ c. going-first _ _ _ _)
+    (λ c. omega arith)
+    (λ c κs. tt)
+    (λ c. omega arith)
+    (λ c. going-next _ _ _ _ _ _ _ (c .before .before .before .loop .inv) (c .before .if1 .taken) (λ A p h. c .with-use .ensures A (p _) h))
+    (λ c. λ A. going-done _ _ _ _ _ _ (c .before .before .loop .inv) (c .if1 .left) A))

@@ -5,7 +5,7 @@ use Rattle.move_optimizer.proofs.defs.define_members.Statement.{stateme
 use Rattle.move_optimizer.proofs.defs.define_members.Tie as tie
 use Rattle.move_optimizer.proofs.defs.define_members.Reads as reads
 use Rattle.move_optimizer.proofs.defs.define_members.Lts as lts
-use Rattle.move_optimizer.proofs.steps.define.Reads as define-reads
+use Rattle.record.proofs.steps.define.Reads as define-reads
 
 abbrev Inv-loop : tie.InvT-loop
 Inv-loop t rec₀ b vs rs k₀ rec k = k ≤ length vs

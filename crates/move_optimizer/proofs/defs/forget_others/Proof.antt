@@ -6,7 +6,7 @@ use Rattle.move_optimizer.proofs.defs.forget_others.Tie as tie
 use Rattle.move_optimizer.proofs.defs.forget_others.Reads as reads
 use Rattle.move_optimizer.proofs.defs.forget_others.Lts as lts
 use Rattle.entity.proofs.sets.UnitSet.contains.Reads as contains-reads
-use Rattle.move_optimizer.proofs.steps.forget_unit.Reads as forget-unit-reads
+use Rattle.record.proofs.steps.forget_unit.Reads as forget-unit-reads
 
 abbrev Inv-loop : tie.InvT-loop
 Inv-loop rec₀ us own k₀ rec k = k ≤ length us

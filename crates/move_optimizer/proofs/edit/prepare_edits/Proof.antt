@@ -4,7 +4,7 @@ use Rattle.move_optimizer.proofs.edit.prepare_edits.Statement.{statemen
 use Rattle.move_optimizer.proofs.edit.prepare_edits.Tie as tie
 use Rattle.move_optimizer.proofs.edit.prepare_edits.Reads as reads
 use Rattle.move_optimizer.proofs.edit.prepare_edits.Lts as lts
-use Rattle.move_optimizer.proofs.steps.effect.Reads as effect-reads
+use Rattle.record.proofs.steps.effect.Reads as effect-reads
 use Rattle.table.proofs.edits.read_edit.Reads as read-edit-reads
 use Rattle.table.proofs.index.edit_rows.Reads as edit-rows-reads
 

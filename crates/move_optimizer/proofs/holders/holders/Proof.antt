@@ -6,7 +6,7 @@ use Rattle.move_optimizer.proofs.holders.holders.Reads as reads
 use Rattle.move_optimizer.proofs.holders.holders.Lts as lts
 use Rattle.entity.proofs.sets.PhysRegSet.empty.Reads as empty-reads
 use Rattle.entity.proofs.sets.PhysRegSet.insert.Reads as insert-reads
-use Rattle.move_optimizer.proofs.steps.holds.Reads as holds-reads
+use Rattle.record.proofs.steps.holds.Reads as holds-reads
 use Rattle.table.proofs.rows.count.Reads as count-reads
 
 abbrev Inv-loop : tie.InvT-loop

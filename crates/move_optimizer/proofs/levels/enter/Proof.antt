@@ -4,7 +4,7 @@ use Rattle.move_optimizer.proofs.levels.enter.Statement.{statement}
 use Rattle.move_optimizer.proofs.levels.enter.Tie as tie
 use Rattle.move_optimizer.proofs.levels.enter.Reads as reads
 use Rattle.move_optimizer.proofs.levels.enter.Lts as lts
-use Rattle.move_optimizer.proofs.steps.define.Reads as define-reads
+use Rattle.record.proofs.steps.define.Reads as define-reads
 use Rattle.table.proofs.index.param_rows.Reads as param-rows-reads
 use Rattle.table.proofs.view.param_at.Reads as param-at-reads
 

@@ -1,80 +1,35 @@
-use mathlib.Core.Path.{refl}
-use native.Mathlib.Omega.{arith}
-use borrow.Author.Needs.{needs}
 use mathlib.Core.Path.{_≡_}
-use Prim.Native.Nat.{ℕ, _+_, _-_, _*_, _<_, _≤_}
-use lib.ListN.{length, getD}
+use mathlib.Core.Bool.{false}
+use mathlib.Core.Option.{none}
+use Prim.Native.Nat.{_+_, _-_, _≤_}
+use native.Mathlib.Omega.{arith}
+use lib.ListN.{drop}
+use Rattle.rules.specs.Sheet.{totalOf}
+use Rattle.table.specs.Sheet.{sheetIn}
+use Rattle.table.proofs.Sheets.{long-of, blocks-are}
+use Rattle.names.proofs.Totals.{total-step, total-end, over-capped, is-capped}
+use borrow.Author.Needs.{needs}
 use Rattle.names.proofs.limits.inst_total.Statement.{statement}
 use Rattle.names.proofs.limits.inst_total.Tie as tie
-use Rattle.names.proofs.limits.inst_total.Reads as reads
-use Rattle.names.proofs.limits.inst_total.Lts as lts
-use Rattle.table.proofs.rows.count.Reads as count-reads
-use Rattle.table.proofs.view.inst_count.Reads as inst-count-reads
 
 abbrev Inv-loop : tie.InvT-loop
-Inv-loop t blocks b₀ sum₀ b sum = sum ≤ 512
+Inv-loop t blocks b₀ sum₀ b sum = (sum ≤ 512) × (sum + totalOf (drop b (sheetIn t .blocks)) ≡ totalOf (sheetIn t .blocks))
 
 abbrev μ-loop : tie.MeasureT-loop
 μ-loop t blocks b₀ sum₀ b sum = blocks - b
 
--- src/limits.rt:83:9
-count-requires : tie.Need-count-requires Inv-loop μ-loop
-count-requires c κs = search needs
-
--- src/limits.rt:86:5
-loop-holds : tie.Need-loop-holds Inv-loop μ-loop
-loop-holds c = search needs
-
--- src/limits.rt:87:13
-inst-count-requires : tie.Need-inst-count-requires Inv-loop μ-loop
-inst-count-requires c κs = search needs
-
--- src/limits.rt:88:12
-sub-if1 : tie.Need-sub-if1 Inv-loop μ-loop
-sub-if1 c = search needs
-
--- src/limits.rt:89:20
-add-result : tie.Need-add-result Inv-loop μ-loop
-add-result c = search needs
-
--- src/limits.rt:89:13
-returns : tie.Need-returns Inv-loop μ-loop
-returns c = search needs
-
--- src/limits.rt:91:9
-add-sum : tie.Need-add-sum Inv-loop μ-loop
-add-sum c = search needs
-
--- src/limits.rt:92:9
-add-b : tie.Need-add-b Inv-loop μ-loop
-add-b c = search needs
-
--- src/limits.rt:86:5
-loop-less : tie.Need-loop-less Inv-loop μ-loop
-loop-less c = search needs
-
--- src/limits.rt:86:5
-loop-again : tie.Need-loop-again Inv-loop μ-loop
-loop-again c = search needs
-
--- src/limits.rt:81:1
-returns-2 : tie.Need-returns-2 Inv-loop μ-loop
-returns-2 c = search needs
-
 pub inst-total-spec : {M : Type 1} → statement M
-inst-total-spec =
-    tie.close
-    (tie.spec
+inst-total-spec = tie.close (tie.spec
     Inv-loop
     μ-loop
-    count-requires
-    loop-holds
-    inst-count-requires
-    sub-if1
-    add-result
-    returns
-    add-sum
-    add-b
-    loop-less
-    loop-again
-    returns-2)
+    (λ c κs. search needs)
+    (λ c. (omega arith, omega arith))
+    (λ c κs. search needs)
+    (λ c. search needs)
+    (λ c. search needs)
+    (λ c. let l = long-of (blocks-are (c .before .before .before .before .before .before .args .t .now)) in over-capped (totalOf (sheetIn (c .before .before .before .before .before .before .args .t .now) .blocks)) (omega (arith, c .before .before .before .loop .inv .1, c .before .inst-count .ensures, total-step (sheetIn (c .before .before .before .before .before .before .args .t .now) .blocks) (c .before .before .before .loop .b) (record { instructions = 0; idom = none; entry = false }) (omega (arith, c .before .before .before .before .count .ensures)))))
+    (λ c. search needs)
+    (λ c. search needs)
+    (λ c. search needs)
+    (λ c. let l = long-of (blocks-are (c .before .before .before .before .before .before .args .t .now)) in (omega arith, omega (arith, c .before .before .before .loop .inv .1, c .before .inst-count .ensures, total-step (sheetIn (c .before .before .before .before .before .before .args .t .now) .blocks) (c .before .before .before .loop .b) (record { instructions = 0; idom = none; entry = false }) (omega (arith, c .before .before .before .before .count .ensures)))))
+    (λ c. let l = long-of (blocks-are (c .before .before .before .before .args .t .now)) in is-capped (totalOf (sheetIn (c .before .before .before .before .args .t .now) .blocks)) (omega (arith, c .before .loop .inv .1, total-end (sheetIn (c .before .before .before .before .args .t .now) .blocks) (c .before .loop .b) (omega (arith, c .before .before .count .ensures)))) (c .before .loop .inv .0)))

@@ -1,69 +1,32 @@
+use mathlib.Core.Path.{_≡_, refl, sym, ap, _∙_}
+use Prim.Native.Nat.{_-_}
+use lib.ListN.{drop}
+use borrow.Author.Tests.{not-true, not-false}
+use Rattle.laws.specs.Lists.{all}
+use Rattle.rules.specs.Accept.{unitsWithin}
+use Rattle.table.specs.Sheet.{sheetIn}
+use Rattle.table.proofs.Sheets.{regs-are}
+use Rattle.names.proofs.Rows.{rows-fail, rows-next, rows-end}
 use borrow.Author.Needs.{needs}
-use mathlib.Core.Path.{_≡_}
-use Prim.Native.Nat.{ℕ, _+_, _-_, _*_, _<_, _≤_}
-use lib.ListN.{length, getD}
 use Rattle.names.proofs.limits.regs_within.Statement.{statement}
 use Rattle.names.proofs.limits.regs_within.Tie as tie
-use Rattle.names.proofs.limits.regs_within.Reads as reads
-use Rattle.names.proofs.limits.regs_within.Lts as lts
-use Rattle.names.proofs.limits.units_within.Reads as units-within-reads
-use Rattle.table.proofs.rows.count.Reads as count-reads
-use Rattle.table.proofs.view.units.Reads as units-reads
 
 abbrev Inv-loop : tie.InvT-loop
-Inv-loop t regs r₀ r = Unit {0}
+Inv-loop t regs r₀ r = all (λ x. unitsWithin (x .units)) (drop r (sheetIn t .regs)) ≡ all (λ x. unitsWithin (x .units)) (sheetIn t .regs)
 
 abbrev μ-loop : tie.MeasureT-loop
 μ-loop t regs r₀ r = regs - r
 
--- src/limits.rt:43:9
-count-requires : tie.Need-count-requires Inv-loop μ-loop
-count-requires c κs = search needs
-
--- src/limits.rt:45:5
-loop-holds : tie.Need-loop-holds Inv-loop μ-loop
-loop-holds c = search needs
-
--- src/limits.rt:46:26
-units-requires : tie.Need-units-requires Inv-loop μ-loop
-units-requires c κs = search needs
-
--- src/limits.rt:46:13
-units-within-requires : tie.Need-units-within-requires Inv-loop μ-loop
-units-within-requires c κs = search needs
-
--- src/limits.rt:47:13
-returns : tie.Need-returns Inv-loop μ-loop
-returns c = search needs
-
--- src/limits.rt:49:9
-add-r : tie.Need-add-r Inv-loop μ-loop
-add-r c = search needs
-
--- src/limits.rt:45:5
-loop-less : tie.Need-loop-less Inv-loop μ-loop
-loop-less c = search needs
-
--- src/limits.rt:45:5
-loop-again : tie.Need-loop-again Inv-loop μ-loop
-loop-again c = search needs
-
--- src/limits.rt:41:1
-returns-2 : tie.Need-returns-2 Inv-loop μ-loop
-returns-2 c = search needs
-
 pub regs-within-spec : {M : Type 1} → statement M
-regs-within-spec =
-    tie.close
-    (tie.spec
+regs-within-spec = tie.close (tie.spec
     Inv-loop
     μ-loop
-    count-requires
-    loop-holds
-    units-requires
-    units-within-requires
-    returns
-    add-r
-    loop-less
-    loop-again
-    returns-2)
+    (λ c κs. search needs)
+    (λ c. refl)
+    (λ c κs. search needs)
+    (λ c κs. search needs)
+    (λ c. rows-fail (regs-are _) _ (c .before .before .before .before .before .count .ensures) _ (c .before .before .before .before .loop .inv) _ (c .before .before .before .loop-test .taken) (sym (c .before .units-within .ensures ∙ ap unitsWithin (c .before .before .units .ensures)) ∙ not-true _ (c .if1 .taken)))
+    (λ c. search needs)
+    (λ c. search needs)
+    (λ c. rows-next (regs-are _) _ (c .before .before .before .before .before .count .ensures) _ (c .before .before .before .before .loop .inv) _ (c .before .before .before .loop-test .taken) (sym (c .before .units-within .ensures ∙ ap unitsWithin (c .before .before .units .ensures)) ∙ not-false _ (c .if1 .left)))
+    (λ c. rows-end (regs-are _) _ (c .before .before .count .ensures) _ (c .before .loop .inv) (c .loop-test .left)))

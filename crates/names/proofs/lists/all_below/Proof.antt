@@ -1,61 +1,29 @@
+use mathlib.Core.Path.{_≡_, refl, sym, _∙_}
+use Prim.Native.Nat.{_-_}
+use lib.ListN.{length, drop}
+use lib.Dec.{ltb}
+use Rattle.laws.specs.Lists.{all}
+use Rattle.table.proofs.Loops.{all-false-in, all-next-in, all-end-in}
+use borrow.Author.Tests.{lt-ltb, le-ltb}
 use borrow.Author.Needs.{needs}
-use mathlib.Core.Path.{_≡_}
-use Prim.Native.Nat.{ℕ, _+_, _-_, _*_, _<_, _≤_}
-use lib.ListN.{length, getD}
 use Rattle.names.proofs.lists.all_below.Statement.{statement}
 use Rattle.names.proofs.lists.all_below.Tie as tie
-use Rattle.names.proofs.lists.all_below.Reads as reads
-use Rattle.names.proofs.lists.all_below.Lts as lts
 
 abbrev Inv-loop : tie.InvT-loop
-Inv-loop list limit i₀ i = Unit {0}
+Inv-loop list limit i₀ i = all (λ x. ltb x limit) (drop i list) ≡ all (λ x. ltb x limit) list
 
 abbrev μ-loop : tie.MeasureT-loop
 μ-loop list limit i₀ i = length list - i
 
--- src/lists.rt:11:5
-loop-holds : tie.Need-loop-holds Inv-loop μ-loop
-loop-holds c = search needs
-
--- src/lists.rt:12:12
-mul-if1 : tie.Need-mul-if1 Inv-loop μ-loop
-mul-if1 c = search needs
-
--- src/lists.rt:12:12
-shared-slice-read-if1 : tie.Need-shared-slice-read-if1 Inv-loop μ-loop
-shared-slice-read-if1 c = search needs
-
--- src/lists.rt:13:13
-returns : tie.Need-returns Inv-loop μ-loop
-returns c = search needs
-
--- src/lists.rt:15:9
-add-i : tie.Need-add-i Inv-loop μ-loop
-add-i c = search needs
-
--- src/lists.rt:11:5
-loop-less : tie.Need-loop-less Inv-loop μ-loop
-loop-less c = search needs
-
--- src/lists.rt:11:5
-loop-again : tie.Need-loop-again Inv-loop μ-loop
-loop-again c = search needs
-
--- src/lists.rt:8:1
-returns-2 : tie.Need-returns-2 Inv-loop μ-loop
-returns-2 c = search needs
-
 pub all-below-spec : {M : Type 1} → statement M
-all-below-spec =
-    tie.close
-    (tie.spec
+all-below-spec = tie.close (tie.spec
     Inv-loop
     μ-loop
-    loop-holds
-    mul-if1
-    shared-slice-read-if1
-    returns
-    add-i
-    loop-less
-    loop-again
-    returns-2)
+    (λ c. refl)
+    (λ c. search needs)
+    (λ c. search needs)
+    (λ c. sym (all-false-in _ 0 _ _ (c .before .before .loop-test .taken) (le-ltb _ _ (c .if1 .taken))) ∙ c .before .before .before .loop .inv)
+    (λ c. search needs)
+    (λ c. search needs)
+    (λ c. all-next-in _ 0 _ _ (c .before .before .loop-test .taken) (lt-ltb _ _ (c .if1 .left)) ∙ c .before .before .before .loop .inv)
+    (λ c. sym (all-end-in _ 0 _ _ (c .loop-test .left)) ∙ c .before .loop .inv))

@@ -1,67 +1,29 @@
+use mathlib.Core.Path.{_≡_, refl, sym, _∙_}
+use Prim.Native.Nat.{_-_}
+use lib.ListN.{length, drop}
+use Rattle.bits.specs.Sets.{has}
+use Rattle.laws.specs.Lists.{any}
+use Rattle.table.proofs.Loops.{any-true-in, any-next-in, any-end-in}
 use borrow.Author.Needs.{needs}
-use mathlib.Core.Path.{_≡_}
-use Prim.Native.Nat.{ℕ, _+_, _-_, _*_, _<_, _≤_}
-use lib.ListN.{length, getD}
 use Rattle.names.proofs.lists.any_in.Statement.{statement}
 use Rattle.names.proofs.lists.any_in.Tie as tie
-use Rattle.names.proofs.lists.any_in.Reads as reads
-use Rattle.names.proofs.lists.any_in.Lts as lts
-use Rattle.bits.proofs.sets.NumberSet.contains.Reads as contains-reads
 
 abbrev Inv-loop : tie.InvT-loop
-Inv-loop list s i₀ i = Unit {0}
+Inv-loop list s i₀ i = any (has s) (drop i list) ≡ any (has s) list
 
 abbrev μ-loop : tie.MeasureT-loop
 μ-loop list s i₀ i = length list - i
 
--- src/lists.rt:67:5
-loop-holds : tie.Need-loop-holds Inv-loop μ-loop
-loop-holds c = search needs
-
--- src/lists.rt:68:17
-mul-x : tie.Need-mul-x Inv-loop μ-loop
-mul-x c = search needs
-
--- src/lists.rt:68:17
-shared-slice-read-x : tie.Need-shared-slice-read-x Inv-loop μ-loop
-shared-slice-read-x c = search needs
-
--- src/lists.rt:69:12
-contains-requires : tie.Need-contains-requires Inv-loop μ-loop
-contains-requires c κs = search needs
-
--- src/lists.rt:70:13
-returns : tie.Need-returns Inv-loop μ-loop
-returns c = search needs
-
--- src/lists.rt:72:9
-add-i : tie.Need-add-i Inv-loop μ-loop
-add-i c = search needs
-
--- src/lists.rt:67:5
-loop-less : tie.Need-loop-less Inv-loop μ-loop
-loop-less c = search needs
-
--- src/lists.rt:67:5
-loop-again : tie.Need-loop-again Inv-loop μ-loop
-loop-again c = search needs
-
--- src/lists.rt:64:1
-returns-2 : tie.Need-returns-2 Inv-loop μ-loop
-returns-2 c = search needs
-
 pub any-in-spec : {M : Type 1} → statement M
-any-in-spec =
-    tie.close
-    (tie.spec
+any-in-spec = tie.close (tie.spec
     Inv-loop
     μ-loop
-    loop-holds
-    mul-x
-    shared-slice-read-x
-    contains-requires
-    returns
-    add-i
-    loop-less
-    loop-again
-    returns-2)
+    (λ c. refl)
+    (λ c. search needs)
+    (λ c. search needs)
+    (λ c κs. search needs)
+    (λ c. sym (any-true-in _ 0 _ _ (c .before .before .before .loop-test .taken) (sym (c .before .contains .ensures) ∙ c .if1 .taken)) ∙ c .before .before .before .before .loop .inv)
+    (λ c. search needs)
+    (λ c. search needs)
+    (λ c. any-next-in _ 0 _ _ (c .before .before .before .loop-test .taken) (sym (c .before .contains .ensures) ∙ c .if1 .left) ∙ c .before .before .before .before .loop .inv)
+    (λ c. sym (any-end-in _ 0 _ _ (c .loop-test .left)) ∙ c .before .loop .inv))

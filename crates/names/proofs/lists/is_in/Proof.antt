@@ -1,61 +1,30 @@
+use mathlib.Core.Path.{_≡_, refl, sym, _∙_}
+use Prim.Native.Nat.{_-_}
+use lib.ListN.{length, drop}
+use lib.Dec.{eqb}
+use Rattle.laws.specs.Lists.{any, isIn}
+use Rattle.table.proofs.Loops.{any-true-in, any-next-in, any-end-in}
+use borrow.Author.Tests.{eq-eqb, ne-eqb}
 use borrow.Author.Needs.{needs}
-use mathlib.Core.Path.{_≡_}
-use Prim.Native.Nat.{ℕ, _+_, _-_, _*_, _<_, _≤_}
-use lib.ListN.{length, getD}
 use Rattle.names.proofs.lists.is_in.Statement.{statement}
 use Rattle.names.proofs.lists.is_in.Tie as tie
-use Rattle.names.proofs.lists.is_in.Reads as reads
-use Rattle.names.proofs.lists.is_in.Lts as lts
 
 abbrev Inv-loop : tie.InvT-loop
-Inv-loop x list i₀ i = Unit {0}
+Inv-loop x list i₀ i = any (eqb x) (drop i list) ≡ any (eqb x) list
 
 abbrev μ-loop : tie.MeasureT-loop
 μ-loop x list i₀ i = length list - i
 
--- src/lists.rt:24:5
-loop-holds : tie.Need-loop-holds Inv-loop μ-loop
-loop-holds c = search needs
-
--- src/lists.rt:25:17
-mul-if1 : tie.Need-mul-if1 Inv-loop μ-loop
-mul-if1 c = search needs
-
--- src/lists.rt:25:17
-shared-slice-read-if1 : tie.Need-shared-slice-read-if1 Inv-loop μ-loop
-shared-slice-read-if1 c = search needs
-
--- src/lists.rt:26:13
-returns : tie.Need-returns Inv-loop μ-loop
-returns c = search needs
-
--- src/lists.rt:28:9
-add-i : tie.Need-add-i Inv-loop μ-loop
-add-i c = search needs
-
--- src/lists.rt:24:5
-loop-less : tie.Need-loop-less Inv-loop μ-loop
-loop-less c = search needs
-
--- src/lists.rt:24:5
-loop-again : tie.Need-loop-again Inv-loop μ-loop
-loop-again c = search needs
-
--- src/lists.rt:21:1
-returns-2 : tie.Need-returns-2 Inv-loop μ-loop
-returns-2 c = search needs
-
 pub is-in-spec : {M : Type 1} → statement M
-is-in-spec =
-    tie.close
-    (tie.spec
+unfolding isIn
+is-in-spec = tie.close (tie.spec
     Inv-loop
     μ-loop
-    loop-holds
-    mul-if1
-    shared-slice-read-if1
-    returns
-    add-i
-    loop-less
-    loop-again
-    returns-2)
+    (λ c. refl)
+    (λ c. search needs)
+    (λ c. search needs)
+    (λ c. sym (any-true-in _ 0 _ _ (c .before .before .loop-test .taken) (eq-eqb _ _ (c .if1 .taken))) ∙ c .before .before .before .loop .inv)
+    (λ c. search needs)
+    (λ c. search needs)
+    (λ c. any-next-in _ 0 _ _ (c .before .before .loop-test .taken) (ne-eqb _ _ (c .if1 .left)) ∙ c .before .before .before .loop .inv)
+    (λ c. sym (any-end-in _ 0 _ _ (c .loop-test .left)) ∙ c .before .loop .inv))

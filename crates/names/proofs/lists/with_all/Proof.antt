@@ -1,62 +1,32 @@
+use mathlib.Core.Path.{refl}
+use Prim.Native.Nat.{_-_}
+use lib.ListN.{length}
+use mathlib.Core.Bool.{_||_}
+use lib.Dec.{eqb}
+use Rattle.laws.specs.Lists.{isIn}
+use Rattle.laws.proofs.Words.{Words, words}
+use Rattle.bits.specs.Sets.{has, setOf}
+use Rattle.names.proofs.Sets.{Growing, grow-next, grow-end}
 use borrow.Author.Needs.{needs}
-use mathlib.Core.Path.{_≡_}
-use Prim.Native.Nat.{ℕ, _+_, _-_, _*_, _<_, _≤_}
-use lib.ListN.{length, getD}
 use Rattle.names.proofs.lists.with_all.Statement.{statement}
 use Rattle.names.proofs.lists.with_all.Tie as tie
-use Rattle.names.proofs.lists.with_all.Reads as reads
-use Rattle.names.proofs.lists.with_all.Lts as lts
-use Rattle.bits.proofs.sets.NumberSet.insert.Reads as insert-reads
 
 abbrev Inv-loop : tie.InvT-loop
-Inv-loop list grown₀ i₀ grown i = Unit {0}
+Inv-loop list grown₀ i₀ grown i = Growing eqb list (setOf (λ k. has grown₀ k || isIn k list)) i grown
 
 abbrev μ-loop : tie.MeasureT-loop
 μ-loop list grown₀ i₀ grown i = length list - i
 
--- src/lists.rt:82:5
-loop-holds : tie.Need-loop-holds Inv-loop μ-loop
-loop-holds c = search needs
-
--- src/lists.rt:83:17
-mul-x : tie.Need-mul-x Inv-loop μ-loop
-mul-x c = search needs
-
--- src/lists.rt:83:17
-shared-slice-read-x : tie.Need-shared-slice-read-x Inv-loop μ-loop
-shared-slice-read-x c = search needs
-
--- src/lists.rt:84:9
-insert-requires : tie.Need-insert-requires Inv-loop μ-loop
-insert-requires c κs = search needs
-
--- src/lists.rt:85:9
-add-i : tie.Need-add-i Inv-loop μ-loop
-add-i c = search needs
-
--- src/lists.rt:82:5
-loop-less : tie.Need-loop-less Inv-loop μ-loop
-loop-less c = search needs
-
--- src/lists.rt:82:5
-loop-again : tie.Need-loop-again Inv-loop μ-loop
-loop-again c = search needs
-
--- src/lists.rt:78:1
-returns : tie.Need-returns Inv-loop μ-loop
-returns c = search needs
-
 pub with-all-spec : {M : Type 1} → statement M
-with-all-spec =
-    tie.close
-    (tie.spec
+unfolding isIn
+with-all-spec = tie.close (tie.spec
     Inv-loop
     μ-loop
-    loop-holds
-    mul-x
-    shared-slice-read-x
-    insert-requires
-    add-i
-    loop-less
-    loop-again
-    returns)
+    (λ c. let w : Words 4 (c .before .args .s .words) = words (search needs) (λ i. search needs) in record { set = (w .long, w .each); rest = refl })
+    (λ c. search needs)
+    (λ c. search needs)
+    (λ c κs. search needs)
+    (λ c. search needs)
+    (λ c. search needs)
+    (λ c. grow-next (c .before .before .before .loop .inv) 0 (c .before .before .loop-test .taken) (c .insert .ensures))
+    (λ c. grow-end (c .before .loop .inv) (c .loop-test .left)))

@@ -1,63 +1,40 @@
+use mathlib.Core.Path.{_≡_, refl, sym, ap, _∙_}
+use mathlib.Core.Bool.{not}
+use mathlib.Core.List.{[]}
+use Prim.Native.Nat.{_-_}
+use native.Mathlib.Omega.{arith}
+use lib.ListN.{drop}
+use Rattle.laws.specs.Lists.{any}
+use Rattle.rules.specs.Sheet.{field}
+use Rattle.rules.specs.Accept.{headedBy}
+use Rattle.table.specs.Sheet.{sheetIn}
+use Rattle.table.proofs.Sheets.{long-of, groups-are}
+use Rattle.table.proofs.Loops.{any-true-in, any-next-in, any-end-in}
+use Rattle.names.proofs.Totals.{none-later, head-same}
 use borrow.Author.Needs.{needs}
-use mathlib.Core.Path.{_≡_}
-use Prim.Native.Nat.{ℕ, _+_, _-_, _*_, _<_, _≤_}
-use lib.ListN.{length, getD}
 use Rattle.names.proofs.names.apart_from_later.Statement.{statement}
 use Rattle.names.proofs.names.apart_from_later.Tie as tie
-use Rattle.names.proofs.names.apart_from_later.Reads as reads
-use Rattle.names.proofs.names.apart_from_later.Lts as lts
-use Rattle.names.proofs.names.head_apart.Reads as head-apart-reads
-use Rattle.table.proofs.rows.count.Reads as count-reads
 
 abbrev Inv-loop : tie.InvT-loop
-Inv-loop t g rows h₀ h = Unit {0}
+Inv-loop t rows class reg h₀ h = any (headedBy (class .0) (reg .0)) (drop h (sheetIn t .groups)) ≡ any (headedBy (class .0) (reg .0)) (drop h₀ (sheetIn t .groups))
 
 abbrev μ-loop : tie.MeasureT-loop
-μ-loop t g rows h₀ h = rows - h
-
--- src/names.rt:463:9
-count-requires : tie.Need-count-requires Inv-loop μ-loop
-count-requires c κs = search needs
-
--- src/names.rt:465:5
-loop-holds : tie.Need-loop-holds Inv-loop μ-loop
-loop-holds c = search needs
-
--- src/names.rt:466:13
-head-apart-requires : tie.Need-head-apart-requires Inv-loop μ-loop
-head-apart-requires c κs = search needs
-
--- src/names.rt:467:13
-returns : tie.Need-returns Inv-loop μ-loop
-returns c = search needs
-
--- src/names.rt:469:9
-add-h : tie.Need-add-h Inv-loop μ-loop
-add-h c = search needs
-
--- src/names.rt:465:5
-loop-less : tie.Need-loop-less Inv-loop μ-loop
-loop-less c = search needs
-
--- src/names.rt:465:5
-loop-again : tie.Need-loop-again Inv-loop μ-loop
-loop-again c = search needs
-
--- src/names.rt:461:1
-returns-2 : tie.Need-returns-2 Inv-loop μ-loop
-returns-2 c = search needs
+μ-loop t rows class reg h₀ h = rows - h
 
 pub apart-from-later-spec : {M : Type 1} → statement M
-apart-from-later-spec =
-    tie.close
-    (tie.spec
+apart-from-later-spec = tie.close (tie.spec
     Inv-loop
     μ-loop
-    count-requires
-    loop-holds
-    head-apart-requires
-    returns
-    add-h
-    loop-less
-    loop-again
-    returns-2)
+    (λ c κs. search needs)
+    (λ c. let l = long-of (groups-are (c .before .before .before .before .args .t .now)) in none-later (sheetIn (c .before .before .before .before .args .t .now) .groups) (c .before .before .before .before .args .g .0) _ (omega (arith, c .before .before .count .ensures, c .if1 .taken)))
+    (λ c κs. search needs)
+    (λ c κs. search needs)
+    (λ c κs. search needs)
+    (λ c. search needs)
+    (λ c. refl)
+    (λ c κs. search needs)
+    (λ c. let l = long-of (groups-are (c .before .before .before .before .before .before .before .before .before .before .before .before .args .t .now)) in ap not (sym (any-true-in _ _ (sheetIn (c .before .before .before .before .before .before .before .before .before .before .before .before .args .t .now) .groups) (c .before .before .before .loop .h) (omega (arith, c .before .before .before .before .before .before .before .before .before .before .count .ensures)) (sym (c .before .headed-by .ensures) ∙ c .if2 .taken)) ∙ c .before .before .before .loop .inv ∙ head-same (c .before .before .before .before .before .before .before .group-class .ensures) (c .before .before .before .before .before .read-u32 .ensures ∙ ap (field 0) (c .before .before .before .before .before .before .group-regs .ensures)) _))
+    (λ c. search needs)
+    (λ c. search needs)
+    (λ c. let l = long-of (groups-are (c .before .before .before .before .before .before .before .before .before .before .before .before .args .t .now)) in any-next-in _ _ (sheetIn (c .before .before .before .before .before .before .before .before .before .before .before .before .args .t .now) .groups) (c .before .before .before .loop .h) (omega (arith, c .before .before .before .before .before .before .before .before .before .before .count .ensures)) (sym (c .before .headed-by .ensures) ∙ c .if2 .left) ∙ c .before .before .before .loop .inv)
+    (λ c. let l = long-of (groups-are (c .before .before .before .before .before .before .before .before .before .before .args .t .now)) in ap not (sym (any-end-in _ (record { class = 0; regs = [] }) (sheetIn (c .before .before .before .before .before .before .before .before .before .before .args .t .now) .groups) (c .before .loop .h) (omega (arith, c .before .before .before .before .before .before .before .before .count .ensures))) ∙ c .before .loop .inv ∙ head-same (c .before .before .before .before .before .group-class .ensures) (c .before .before .before .read-u32 .ensures ∙ ap (field 0) (c .before .before .before .before .group-regs .ensures)) _)))

@@ -1,63 +1,32 @@
+use mathlib.Core.Path.{_≡_, refl, sym, _∙_}
+use Prim.Native.Nat.{_-_}
+use lib.ListN.{drop}
+use borrow.Author.Tests.{not-true, not-false}
+use Rattle.laws.specs.Lists.{all}
+use Rattle.bits.specs.Sets.{has}
+use Rattle.names.specs.Steps.{clobNamed}
+use Rattle.table.specs.Sheet.{sheetIn}
+use Rattle.table.proofs.Sheets.{clobs-are}
+use Rattle.names.proofs.Rows.{fail-at, next-at, rows-end}
 use borrow.Author.Needs.{needs}
-use mathlib.Core.Path.{_≡_}
-use Prim.Native.Nat.{ℕ, _+_, _-_, _*_, _<_, _≤_}
-use lib.ListN.{length, getD}
 use Rattle.names.proofs.names.clobs_named.Statement.{statement}
 use Rattle.names.proofs.names.clobs_named.Tie as tie
-use Rattle.names.proofs.names.clobs_named.Reads as reads
-use Rattle.names.proofs.names.clobs_named.Lts as lts
-use Rattle.names.proofs.names.clob_named.Reads as clob-named-reads
-use Rattle.table.proofs.rows.count.Reads as count-reads
 
 abbrev Inv-loop : tie.InvT-loop
-Inv-loop t insts all rows n₀ n = Unit {0}
+Inv-loop t insts units rows n₀ n = all (clobNamed (has (units .0)) insts) (drop n (sheetIn t .clobs)) ≡ all (clobNamed (has (units .0)) insts) (sheetIn t .clobs)
 
 abbrev μ-loop : tie.MeasureT-loop
-μ-loop t insts all rows n₀ n = rows - n
-
--- src/names.rt:331:9
-count-requires : tie.Need-count-requires Inv-loop μ-loop
-count-requires c κs = search needs
-
--- src/names.rt:333:5
-loop-holds : tie.Need-loop-holds Inv-loop μ-loop
-loop-holds c = search needs
-
--- src/names.rt:334:13
-clob-named-requires : tie.Need-clob-named-requires Inv-loop μ-loop
-clob-named-requires c κs = search needs
-
--- src/names.rt:335:13
-returns : tie.Need-returns Inv-loop μ-loop
-returns c = search needs
-
--- src/names.rt:337:9
-add-n : tie.Need-add-n Inv-loop μ-loop
-add-n c = search needs
-
--- src/names.rt:333:5
-loop-less : tie.Need-loop-less Inv-loop μ-loop
-loop-less c = search needs
-
--- src/names.rt:333:5
-loop-again : tie.Need-loop-again Inv-loop μ-loop
-loop-again c = search needs
-
--- src/names.rt:329:1
-returns-2 : tie.Need-returns-2 Inv-loop μ-loop
-returns-2 c = search needs
+μ-loop t insts units rows n₀ n = rows - n
 
 pub clobs-named-spec : {M : Type 1} → statement M
-clobs-named-spec =
-    tie.close
-    (tie.spec
+clobs-named-spec = tie.close (tie.spec
     Inv-loop
     μ-loop
-    count-requires
-    loop-holds
-    clob-named-requires
-    returns
-    add-n
-    loop-less
-    loop-again
-    returns-2)
+    (λ c κs. search needs)
+    (λ c. refl)
+    (λ c κs. search needs)
+    (λ c. fail-at (clobs-are _) _ (c .before .before .before .before .count .ensures) _ (c .before .before .before .loop .inv) (c .before .before .loop-test .taken) (sym (c .before .clob-named .ensures) ∙ not-true _ (c .if1 .taken)))
+    (λ c. search needs)
+    (λ c. search needs)
+    (λ c. next-at (clobs-are _) _ (c .before .before .before .before .count .ensures) _ (c .before .before .before .loop .inv) (c .before .before .loop-test .taken) (sym (c .before .clob-named .ensures) ∙ not-false _ (c .if1 .left)))
+    (λ c. rows-end (clobs-are _) _ (c .before .before .count .ensures) _ (c .before .loop .inv) (c .loop-test .left)))

@@ -1,63 +1,31 @@
+use mathlib.Core.Path.{_≡_, refl, sym, _∙_}
+use Prim.Native.Nat.{_-_}
+use lib.ListN.{drop}
+use borrow.Author.Tests.{not-true, not-false}
+use Rattle.laws.specs.Lists.{all}
+use Rattle.names.specs.Steps.{groupNamed}
+use Rattle.table.specs.Sheet.{sheetIn}
+use Rattle.table.proofs.Sheets.{groups-are}
+use Rattle.names.proofs.Rows.{rows-fail, rows-next, rows-end}
 use borrow.Author.Needs.{needs}
-use mathlib.Core.Path.{_≡_}
-use Prim.Native.Nat.{ℕ, _+_, _-_, _*_, _<_, _≤_}
-use lib.ListN.{length, getD}
 use Rattle.names.proofs.names.groups_named.Statement.{statement}
 use Rattle.names.proofs.names.groups_named.Tie as tie
-use Rattle.names.proofs.names.groups_named.Reads as reads
-use Rattle.names.proofs.names.groups_named.Lts as lts
-use Rattle.names.proofs.names.group_named.Reads as group-named-reads
-use Rattle.table.proofs.rows.count.Reads as count-reads
 
 abbrev Inv-loop : tie.InvT-loop
-Inv-loop t rows g₀ g = Unit {0}
+Inv-loop t rows g₀ g = all (groupNamed (sheetIn t)) (drop g (sheetIn t .groups)) ≡ all (groupNamed (sheetIn t)) (sheetIn t .groups)
 
 abbrev μ-loop : tie.MeasureT-loop
 μ-loop t rows g₀ g = rows - g
 
--- src/names.rt:171:9
-count-requires : tie.Need-count-requires Inv-loop μ-loop
-count-requires c κs = search needs
-
--- src/names.rt:173:5
-loop-holds : tie.Need-loop-holds Inv-loop μ-loop
-loop-holds c = search needs
-
--- src/names.rt:174:13
-group-named-requires : tie.Need-group-named-requires Inv-loop μ-loop
-group-named-requires c κs = search needs
-
--- src/names.rt:175:13
-returns : tie.Need-returns Inv-loop μ-loop
-returns c = search needs
-
--- src/names.rt:177:9
-add-g : tie.Need-add-g Inv-loop μ-loop
-add-g c = search needs
-
--- src/names.rt:173:5
-loop-less : tie.Need-loop-less Inv-loop μ-loop
-loop-less c = search needs
-
--- src/names.rt:173:5
-loop-again : tie.Need-loop-again Inv-loop μ-loop
-loop-again c = search needs
-
--- src/names.rt:169:1
-returns-2 : tie.Need-returns-2 Inv-loop μ-loop
-returns-2 c = search needs
-
 pub groups-named-spec : {M : Type 1} → statement M
-groups-named-spec =
-    tie.close
-    (tie.spec
+groups-named-spec = tie.close (tie.spec
     Inv-loop
     μ-loop
-    count-requires
-    loop-holds
-    group-named-requires
-    returns
-    add-g
-    loop-less
-    loop-again
-    returns-2)
+    (λ c κs. search needs)
+    (λ c. refl)
+    (λ c κs. search needs)
+    (λ c. rows-fail (groups-are _) _ (c .before .before .before .before .count .ensures) _ (c .before .before .before .loop .inv) _ (c .before .before .loop-test .taken) (sym (c .before .group-named .ensures) ∙ not-true _ (c .if1 .taken)))
+    (λ c. search needs)
+    (λ c. search needs)
+    (λ c. rows-next (groups-are _) _ (c .before .before .before .before .count .ensures) _ (c .before .before .before .loop .inv) _ (c .before .before .loop-test .taken) (sym (c .before .group-named .ensures) ∙ not-false _ (c .if1 .left)))
+    (λ c. rows-end (groups-are _) _ (c .before .before .count .ensures) _ (c .before .loop .inv) (c .loop-test .left)))

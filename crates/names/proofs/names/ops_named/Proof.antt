@@ -1,63 +1,31 @@
+use mathlib.Core.Path.{_≡_, refl, sym, _∙_}
+use Prim.Native.Nat.{_-_}
+use lib.ListN.{drop}
+use borrow.Author.Tests.{not-true, not-false}
+use Rattle.laws.specs.Lists.{all}
+use Rattle.names.specs.Steps.{opNamed}
+use Rattle.table.specs.Sheet.{sheetIn}
+use Rattle.table.proofs.Sheets.{ops-are}
+use Rattle.names.proofs.Rows.{rows-fail, rows-next, rows-end}
 use borrow.Author.Needs.{needs}
-use mathlib.Core.Path.{_≡_}
-use Prim.Native.Nat.{ℕ, _+_, _-_, _*_, _<_, _≤_}
-use lib.ListN.{length, getD}
 use Rattle.names.proofs.names.ops_named.Statement.{statement}
 use Rattle.names.proofs.names.ops_named.Tie as tie
-use Rattle.names.proofs.names.ops_named.Reads as reads
-use Rattle.names.proofs.names.ops_named.Lts as lts
-use Rattle.names.proofs.names.op_named.Reads as op-named-reads
-use Rattle.table.proofs.rows.count.Reads as count-reads
 
 abbrev Inv-loop : tie.InvT-loop
-Inv-loop t insts rows n₀ n = Unit {0}
+Inv-loop t insts rows n₀ n = all (opNamed (sheetIn t) insts) (drop n (sheetIn t .ops)) ≡ all (opNamed (sheetIn t) insts) (sheetIn t .ops)
 
 abbrev μ-loop : tie.MeasureT-loop
 μ-loop t insts rows n₀ n = rows - n
 
--- src/names.rt:311:9
-count-requires : tie.Need-count-requires Inv-loop μ-loop
-count-requires c κs = search needs
-
--- src/names.rt:313:5
-loop-holds : tie.Need-loop-holds Inv-loop μ-loop
-loop-holds c = search needs
-
--- src/names.rt:314:13
-op-named-requires : tie.Need-op-named-requires Inv-loop μ-loop
-op-named-requires c κs = search needs
-
--- src/names.rt:315:13
-returns : tie.Need-returns Inv-loop μ-loop
-returns c = search needs
-
--- src/names.rt:317:9
-add-n : tie.Need-add-n Inv-loop μ-loop
-add-n c = search needs
-
--- src/names.rt:313:5
-loop-less : tie.Need-loop-less Inv-loop μ-loop
-loop-less c = search needs
-
--- src/names.rt:313:5
-loop-again : tie.Need-loop-again Inv-loop μ-loop
-loop-again c = search needs
-
--- src/names.rt:309:1
-returns-2 : tie.Need-returns-2 Inv-loop μ-loop
-returns-2 c = search needs
-
 pub ops-named-spec : {M : Type 1} → statement M
-ops-named-spec =
-    tie.close
-    (tie.spec
+ops-named-spec = tie.close (tie.spec
     Inv-loop
     μ-loop
-    count-requires
-    loop-holds
-    op-named-requires
-    returns
-    add-n
-    loop-less
-    loop-again
-    returns-2)
+    (λ c κs. search needs)
+    (λ c. refl)
+    (λ c κs. search needs)
+    (λ c. rows-fail (ops-are _) _ (c .before .before .before .before .count .ensures) _ (c .before .before .before .loop .inv) _ (c .before .before .loop-test .taken) (sym (c .before .op-named .ensures) ∙ not-true _ (c .if1 .taken)))
+    (λ c. search needs)
+    (λ c. search needs)
+    (λ c. rows-next (ops-are _) _ (c .before .before .before .before .count .ensures) _ (c .before .before .before .loop .inv) _ (c .before .before .loop-test .taken) (sym (c .before .op-named .ensures) ∙ not-false _ (c .if1 .left)))
+    (λ c. rows-end (ops-are _) _ (c .before .before .count .ensures) _ (c .before .loop .inv) (c .loop-test .left)))

@@ -1,63 +1,31 @@
+use mathlib.Core.Path.{_≡_, refl, sym, _∙_}
+use Prim.Native.Nat.{_-_}
+use lib.ListN.{drop}
+use borrow.Author.Tests.{not-true, not-false}
+use Rattle.laws.specs.Lists.{all}
+use Rattle.names.specs.Steps.{paramNamed}
+use Rattle.table.specs.Sheet.{sheetIn}
+use Rattle.table.proofs.Sheets.{params-are}
+use Rattle.names.proofs.Rows.{rows-fail, rows-next, rows-end}
 use borrow.Author.Needs.{needs}
-use mathlib.Core.Path.{_≡_}
-use Prim.Native.Nat.{ℕ, _+_, _-_, _*_, _<_, _≤_}
-use lib.ListN.{length, getD}
 use Rattle.names.proofs.names.params_named.Statement.{statement}
 use Rattle.names.proofs.names.params_named.Tie as tie
-use Rattle.names.proofs.names.params_named.Reads as reads
-use Rattle.names.proofs.names.params_named.Lts as lts
-use Rattle.names.proofs.names.param_named.Reads as param-named-reads
-use Rattle.table.proofs.rows.count.Reads as count-reads
 
 abbrev Inv-loop : tie.InvT-loop
-Inv-loop t rows n₀ n = Unit {0}
+Inv-loop t rows n₀ n = all (paramNamed (sheetIn t)) (drop n (sheetIn t .params)) ≡ all (paramNamed (sheetIn t)) (sheetIn t .params)
 
 abbrev μ-loop : tie.MeasureT-loop
 μ-loop t rows n₀ n = rows - n
 
--- src/names.rt:285:9
-count-requires : tie.Need-count-requires Inv-loop μ-loop
-count-requires c κs = search needs
-
--- src/names.rt:287:5
-loop-holds : tie.Need-loop-holds Inv-loop μ-loop
-loop-holds c = search needs
-
--- src/names.rt:288:13
-param-named-requires : tie.Need-param-named-requires Inv-loop μ-loop
-param-named-requires c κs = search needs
-
--- src/names.rt:289:13
-returns : tie.Need-returns Inv-loop μ-loop
-returns c = search needs
-
--- src/names.rt:291:9
-add-n : tie.Need-add-n Inv-loop μ-loop
-add-n c = search needs
-
--- src/names.rt:287:5
-loop-less : tie.Need-loop-less Inv-loop μ-loop
-loop-less c = search needs
-
--- src/names.rt:287:5
-loop-again : tie.Need-loop-again Inv-loop μ-loop
-loop-again c = search needs
-
--- src/names.rt:283:1
-returns-2 : tie.Need-returns-2 Inv-loop μ-loop
-returns-2 c = search needs
-
 pub params-named-spec : {M : Type 1} → statement M
-params-named-spec =
-    tie.close
-    (tie.spec
+params-named-spec = tie.close (tie.spec
     Inv-loop
     μ-loop
-    count-requires
-    loop-holds
-    param-named-requires
-    returns
-    add-n
-    loop-less
-    loop-again
-    returns-2)
+    (λ c κs. search needs)
+    (λ c. refl)
+    (λ c κs. search needs)
+    (λ c. rows-fail (params-are _) _ (c .before .before .before .before .count .ensures) _ (c .before .before .before .loop .inv) _ (c .before .before .loop-test .taken) (sym (c .before .param-named .ensures) ∙ not-true _ (c .if1 .taken)))
+    (λ c. search needs)
+    (λ c. search needs)
+    (λ c. rows-next (params-are _) _ (c .before .before .before .before .count .ensures) _ (c .before .before .before .loop .inv) _ (c .before .before .loop-test .taken) (sym (c .before .param-named .ensures) ∙ not-false _ (c .if1 .left)))
+    (λ c. rows-end (params-are _) _ (c .before .before .count .ensures) _ (c .before .loop .inv) (c .loop-test .left)))

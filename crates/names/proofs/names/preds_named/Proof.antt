@@ -1,69 +1,34 @@
+use mathlib.Core.Path.{_≡_, refl, sym, ap, _∙_}
+use Prim.Native.Nat.{_-_}
+use lib.ListN.{drop}
+use borrow.Author.Tests.{not-true, not-false}
+use Rattle.laws.specs.Lists.{all}
+use Rattle.rules.specs.Sheet.{listRow}
+use Rattle.names.specs.Steps.{edgeNamed}
+use Rattle.table.specs.Sheet.{sheetIn}
+use Rattle.table.proofs.Sheets.{preds-are}
+use Rattle.names.proofs.Rows.{fail-at, next-at, rows-end}
+use Rattle.table.specs.Sheet.{sheetIn}
 use borrow.Author.Needs.{needs}
-use mathlib.Core.Path.{_≡_}
-use Prim.Native.Nat.{ℕ, _+_, _-_, _*_, _<_, _≤_}
-use lib.ListN.{length, getD}
 use Rattle.names.proofs.names.preds_named.Statement.{statement}
 use Rattle.names.proofs.names.preds_named.Tie as tie
-use Rattle.names.proofs.names.preds_named.Reads as reads
-use Rattle.names.proofs.names.preds_named.Lts as lts
-use Rattle.names.proofs.names.edge_named.Reads as edge-named-reads
-use Rattle.table.proofs.rows.count.Reads as count-reads
-use Rattle.table.proofs.rows.row_of.Reads as row-of-reads
 
 abbrev Inv-loop : tie.InvT-loop
-Inv-loop t rows n₀ n = Unit {0}
+Inv-loop t rows n₀ n = all (edgeNamed (sheetIn t)) (drop n (sheetIn t .preds)) ≡ all (edgeNamed (sheetIn t)) (sheetIn t .preds)
 
 abbrev μ-loop : tie.MeasureT-loop
 μ-loop t rows n₀ n = rows - n
 
--- src/names.rt:264:9
-count-requires : tie.Need-count-requires Inv-loop μ-loop
-count-requires c κs = search needs
-
--- src/names.rt:266:5
-loop-holds : tie.Need-loop-holds Inv-loop μ-loop
-loop-holds c = search needs
-
--- src/names.rt:267:27
-row-of-requires : tie.Need-row-of-requires Inv-loop μ-loop
-row-of-requires c κs = search needs
-
--- src/names.rt:267:13
-edge-named-requires : tie.Need-edge-named-requires Inv-loop μ-loop
-edge-named-requires c κs = search needs
-
--- src/names.rt:268:13
-returns : tie.Need-returns Inv-loop μ-loop
-returns c = search needs
-
--- src/names.rt:270:9
-add-n : tie.Need-add-n Inv-loop μ-loop
-add-n c = search needs
-
--- src/names.rt:266:5
-loop-less : tie.Need-loop-less Inv-loop μ-loop
-loop-less c = search needs
-
--- src/names.rt:266:5
-loop-again : tie.Need-loop-again Inv-loop μ-loop
-loop-again c = search needs
-
--- src/names.rt:262:1
-returns-2 : tie.Need-returns-2 Inv-loop μ-loop
-returns-2 c = search needs
-
 pub preds-named-spec : {M : Type 1} → statement M
-preds-named-spec =
-    tie.close
-    (tie.spec
+preds-named-spec = tie.close (tie.spec
     Inv-loop
     μ-loop
-    count-requires
-    loop-holds
-    row-of-requires
-    edge-named-requires
-    returns
-    add-n
-    loop-less
-    loop-again
-    returns-2)
+    (λ c κs. search needs)
+    (λ c. refl)
+    (λ c κs. search needs)
+    (λ c κs. search needs)
+    (λ c. fail-at (preds-are _) _ (c .before .before .before .before .before .count .ensures) _ (c .before .before .before .before .loop .inv) (c .before .before .before .loop-test .taken) (sym (c .before .edge-named .ensures ∙ ap (λ r. edgeNamed (sheetIn (c .before .before .before .before .before .before .before .args .t .now)) (listRow r)) (c .before .before .row-of .ensures)) ∙ not-true _ (c .if1 .taken)))
+    (λ c. search needs)
+    (λ c. search needs)
+    (λ c. next-at (preds-are _) _ (c .before .before .before .before .before .count .ensures) _ (c .before .before .before .before .loop .inv) (c .before .before .before .loop-test .taken) (sym (c .before .edge-named .ensures ∙ ap (λ r. edgeNamed (sheetIn (c .before .before .before .before .before .before .before .args .t .now)) (listRow r)) (c .before .before .row-of .ensures)) ∙ not-false _ (c .if1 .left)))
+    (λ c. rows-end (preds-are _) _ (c .before .before .count .ensures) _ (c .before .loop .inv) (c .loop-test .left)))

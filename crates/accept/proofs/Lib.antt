@@ -1,0 +1,7 @@
+pub mod Neighbours
+pub mod Dominance
+pub mod Blockwise
+pub mod Walks
+pub mod Reaching
+pub mod Operandwise
+pub mod Pairing

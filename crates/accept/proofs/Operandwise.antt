@@ -1,0 +1,309 @@
+-- Refusal 5 by operand. Assumes nothing.
+use mathlib.Core.Path.{_≡_, refl, sym, ap, _∙_}
+use mathlib.Core.Bool.{Bool, true, false, not, cond, _&&_, _||_, and-false}
+use mathlib.Core.List.{List, [], _∷_}
+use mathlib.Core.Option.{Option, none, some, bind, Option·elim}
+use Prim.Native.Nat.{ℕ, zero, suc, _+_, _-_, _≤_, _<_}
+use native.Mathlib.Nat.{sub-zero}
+use native.Mathlib.Numerals.{add-one}
+use native.Mathlib.Omega.{arith}
+use lib.Dec.{eqb, ltb}
+use lib.Text.{eqt}
+use lib.ListN.{length, getD, take, drop, length-drop}
+use lib.Seq.{length-take-le, getD-take, getD-drop}
+use borrow.Author.Tests.{lt-ltb, le-ltb, not-true, not-false}
+use Rattle.laws.specs.Lists.{all, any, isIn, from}
+use Rattle.laws.proofs.Cases.{by-lt}
+use Rattle.laws.proofs.Lists.{getD-any}
+use Rattle.entity.specs.Limits.{instLimit}
+use Rattle.entity.specs.declared.forms.Place.{Place}
+use Rattle.entity.specs.declared.forms.Place.the-variants.{Reg, Slot}
+use Rattle.entity.specs.declared.forms.Constraint.{Constraint}
+use Rattle.entity.specs.declared.forms.Constraint.the-variants.{Class, Fixed, Reuse}
+use Rattle.entity.specs.declared.forms.OperandKind.{OperandKind}
+use Rattle.entity.specs.declared.forms.OperandKind.the-variants.{Def, Use, EarlyDef, DefGroup, UseGroup, EarlyDefGroup, NonAllocatable}
+use Rattle.entity.specs.declared.numbers.PhysReg.{PhysReg}
+use Rattle.entity.specs.declared.numbers.SpillSlot.{SpillSlot}
+use Rattle.entity.specs.declared.numbers.RegClass.{RegClass}
+use Rattle.entity.specs.declared.numbers.OperandIndex.{OperandIndex}
+use Rattle.entity.specs.declared.numbers.Value.{Value}
+use Rattle.entity.specs.declared.numbers.ValueGroup.{ValueGroup}
+use Rattle.rules.specs.Sheet.{Sheet, OpRow, GroupRow, is, kindWord, subjectOf, valuesOf, classRow}
+use Rattle.rules.specs.Accept.{samePlace, operandsAt, operand, inClass, classOf, classFor, reuseHolds, constraintHolds, fixedHolds, headedBy, beginsGroup, groupHolds, operandsHold}
+use Rattle.table.specs.Rows.{countIn}
+use Rattle.table.specs.Sheet.{rowsAt, sheetIn}
+use Rattle.table.specs.Index.{rangeIn, Ready, before}
+use Rattle.table.specs.View.{opRow, groupRow, operandOf}
+use Rattle.table.specs.declared.index.Range.{Range}
+use Rattle.table.specs.declared.view.Operand.{Operand}
+use Rattle.table.proofs.Loops.{all-numbers, any-numbers}
+use Rattle.table.proofs.Sheets.{long-of, ops-are, groups-are, rows-long}
+use Rattle.table.proofs.Ranges.{before-within}
+use Rattle.table.proofs.Lookups.{ops-of}
+use Rattle.accept.specs.Operands.{asRow, operandFound, classFound, isClass, isFixed, kindsMatch, reusedClass, reuses, groupIs, groupAt, operandHolds}
+use Rattle.accept.specs.declared.operands.FoundOperand.{FoundOperand}
+use Rattle.accept.specs.declared.operands.FoundOperand.the-variants as FoundOperand
+use Rattle.accept.specs.declared.operands.FoundClass.{FoundClass}
+use Rattle.accept.specs.declared.operands.FoundClass.the-variants as FoundClass
+
+-- ---- operand k of an instruction
+
+module _ {t : List ℕ} (g : Ready t) (o : OpRow) (k : ℕ) (r : Range) (e : r ≡ rangeIn t 54952 instLimit (o .at)) where
+  abbrev sh : Sheet
+  sh = sheetIn t
+
+  within : r .to ≤ length (sh .ops)
+  unfolding rangeIn
+  within =
+      rw (long-of (ops-are t))
+      (by-lt (o .at) instLimit
+      (λ h.
+      let q : 54952 + o .at + 1 ≡ 54952 + (o .at + 1) = omega arith in
+      let z : r .to ≡ before (o .at + 1) (rowsAt t 10) = ap (λ (x : Range). x .to) e ∙ rw (lt-ltb (o .at) instLimit h, q) (g .built .ops (o .at + 1) (omega arith)) in
+      rw z (omega (arith, before-within (o .at + 1) (rowsAt t 10), rows-long t 10)))
+      (λ h. let z : r .to ≡ 0 = ap (λ (x : Range). x .to) e ∙ rw (le-ltb (o .at) instLimit h) in rw z (omega arith)))
+
+  rows-are : take (r .to - r .from) (drop (r .from) (sh .ops)) ≡ operandsAt sh (o .at)
+  rows-are = rw e (ops-of g (o .at))
+
+  rows-many : length (operandsAt sh (o .at)) ≡ r .to - r .from
+  rows-many = sym (ap length rows-are) ∙ length-take-le (r .to - r .from) (drop (r .from) (sh .ops)) (rw (length-drop (r .from) (sh .ops)) (omega (arith, within)))
+
+  operand-no : r .to - r .from ≤ k → operand sh o k ≡ none
+  unfolding operand
+  operand-no h = rw (rows-many, le-ltb k (r .to - r .from) h)
+
+  operand-yes : k < r .to - r .from → operand sh o k ≡ some (opRow sh (r .from + k))
+  unfolding operand
+  operand-yes h =
+      rw (rows-many, lt-ltb k (r .to - r .from) h)
+      (ap some
+      (ap (λ (l : List OpRow). getD l k o) (sym rows-are) ∙ getD-take (r .to - r .from) (drop (r .from) (sh .ops)) k o h ∙ getD-drop (r .from) (sh .ops) k o
+      ∙ getD-any (sh .ops) (r .from + k) o _ (omega (arith, within))))
+
+module _ (t : List ℕ) (o : Operand) (k : ℕ) (r : Range) (e : r ≡ rangeIn t 54952 instLimit (o .at .0)) where
+  pub operand-none : r .to - r .from ≤ k → Ready t → FoundOperand.Nothing ≡ operandFound (operand (sheetIn t) (asRow o) k)
+  unfolding operandFound asRow
+  operand-none h g = rw (operand-no g (asRow o) k r e h)
+
+  pub operand-some : (u : Operand) → k < r .to - r .from → u ≡ operandOf (opRow (sheetIn t) (r .from + k)) → Ready t → FoundOperand.At u ≡ operandFound (operand (sheetIn t) (asRow o) k)
+  unfolding operandFound asRow
+  operand-some u h q g = rw (operand-yes g (asRow o) k r e h, q)
+
+-- what is found, by the code's answers
+op-lost : (x : Option OpRow) → FoundOperand.Nothing ≡ operandFound x → x ≡ none
+unfolding operandFound
+op-lost none q = refl
+op-lost (some y) q = absurd (let z : _≡_ {A = ℕ} 0 1 = cc in omega arith)
+
+op-found : (x : Option OpRow) (u : Operand) → FoundOperand.At u ≡ operandFound x → x ≡ some (asRow u)
+unfolding operandFound asRow
+op-found none u q = absurd (let z : _≡_ {A = ℕ} 0 1 = cc in omega arith)
+op-found (some y) u q = let z : u ≡ operandOf y = cc in ap some (sym (ap asRow z))
+
+class-lost : (x : Option ℕ) → FoundClass.Nothing ≡ classFound x → x ≡ none
+unfolding classFound
+class-lost none q = refl
+class-lost (some y) q = absurd (let z : _≡_ {A = ℕ} 0 1 = cc in omega arith)
+
+class-found : (x : Option ℕ) (c : RegClass) → FoundClass.At c ≡ classFound x → x ≡ some (c .0)
+unfolding classFound
+class-found none c q = absurd (let z : _≡_ {A = ℕ} 0 1 = cc in omega arith)
+class-found (some y) c q = let z : c ≡ record { 0 = y } = cc in ap some (sym (ap (λ (c : RegClass). c .0) z))
+
+module _ {H : Type 0} (sh : Sheet) (o : Operand) (k : ℕ) {f : FoundOperand} (e : H → f ≡ operandFound (operand sh (asRow o) k)) where
+  pub reused-none : f ≡ FoundOperand.Nothing → H → FoundClass.Nothing ≡ classFound (reusedClass sh (asRow o) k)
+  unfolding reusedClass classFound bind
+  reused-none q g = rw (op-lost (operand sh (asRow o) k) (sym q ∙ e g))
+
+  pub reused-some : (u : Operand) (x : FoundClass) → f ≡ FoundOperand.At u → ((sh : Sheet) → x ≡ classFound (classOf sh (u .constraint))) → H → x ≡ classFound (reusedClass sh (asRow o) k)
+  unfolding reusedClass asRow bind
+  reused-some u x q p g = rw (op-found (operand sh (asRow o) k) u (sym q ∙ e g)) (p sh)
+
+  pub reuses-none : f ≡ FoundOperand.Nothing → H → false ≡ reuses sh (asRow o) k
+  unfolding reuses Option·elim
+  reuses-none q g = rw (op-lost (operand sh (asRow o) k) (sym q ∙ e g))
+
+  pub reuses-some : (u : Operand) (x : Bool) → f ≡ FoundOperand.At u → ((sh : Sheet) → x ≡ reuseHolds sh (asRow o) (asRow u)) → H → x ≡ reuses sh (asRow o) k
+  unfolding reuses Option·elim
+  reuses-some u x q p g = rw (op-found (operand sh (asRow o) k) u (sym q ∙ e g)) (p sh)
+
+-- ---- a constraint
+
+module _ (o u : Operand) where
+  class-is : (sh : Sheet) (c : Constraint) → Option·elim (classOf sh c) false (λ c. true) ≡ isClass c
+  unfolding classOf isClass Option·elim
+  class-is sh (Class c) = refl
+  class-is sh (Fixed r) = refl
+  class-is sh (Reuse k) = refl
+
+  pub reuse-kinds : (x : Bool) → x ≡ kindsMatch (o .kind) (u .kind) → not x ≡ true → (sh : Sheet) → false ≡ reuseHolds sh (asRow o) (asRow u)
+  unfolding reuseHolds asRow kindsMatch
+  reuse-kinds x e n sh = let z = sym e ∙ not-true x n in rw z
+
+  pub reuse-class : (y : Bool) → y ≡ isClass (u .constraint) → not y ≡ true → (sh : Sheet) → false ≡ reuseHolds sh (asRow o) (asRow u)
+  unfolding reuseHolds asRow
+  reuse-class y e n sh = let z = class-is sh (u .constraint) ∙ sym e ∙ not-true y n in sym (simp (z, and-false))
+
+  pub reuse-place : (x y z : Bool) → x ≡ kindsMatch (o .kind) (u .kind) → not x ≡ false → y ≡ isClass (u .constraint) → not y ≡ false → z ≡ samePlace (u .place) (o .place)
+      → (sh : Sheet) → z ≡ reuseHolds sh (asRow o) (asRow u)
+  unfolding reuseHolds asRow kindsMatch
+  reuse-place x y z e n f m q sh =
+      let a = sym e ∙ not-false x n in
+      let b = class-is sh (u .constraint) ∙ sym f ∙ not-false y m in rw (a, b) q
+
+abbrev classBy : Sheet → OpRow → Constraint → Option ℕ
+classBy sh o c = elim c [ Class c ↦ some (c .0) | Fixed r ↦ none | Reuse k ↦ reusedClass sh o (k .0) ]
+
+class-by : (sh : Sheet) (o : OpRow) → classFor sh o ≡ classBy sh o (o .constraint)
+unfolding classFor reusedClass
+class-by sh o = refl
+
+abbrev holdsBy : Sheet → OpRow → Constraint → Bool
+holdsBy sh o c = elim c [ Class c ↦ inClass sh (c .0) (o .place) | Fixed r ↦ samePlace (o .place) (Reg r) | Reuse k ↦ reuses sh o (k .0) ]
+
+holds-by : (sh : Sheet) (o : OpRow) → constraintHolds sh o ≡ holdsBy sh o (o .constraint)
+unfolding constraintHolds reuses
+holds-by sh o = refl
+
+module _ {H : Type 0} (sh : Sheet) (o : Operand) where
+  pub for-class : (c : RegClass) → o .constraint ≡ Class c → H → FoundClass.At c ≡ classFound (classFor sh (asRow o))
+  unfolding classFor asRow classFound
+  for-class c e g = rw e
+
+  pub for-fixed : (r : PhysReg) → o .constraint ≡ Fixed r → H → FoundClass.Nothing ≡ classFound (classFor sh (asRow o))
+  unfolding classFor asRow classFound
+  for-fixed r e g = rw e
+
+  pub for-reuse : (k : OperandIndex) (x : FoundClass) → o .constraint ≡ Reuse k → (H → x ≡ classFound (reusedClass sh (asRow o) (k .0))) → H → x ≡ classFound (classFor sh (asRow o))
+  unfolding asRow
+  for-reuse k x e p g = p g ∙ sym (ap classFound (class-by sh (asRow o) ∙ ap (classBy sh (asRow o)) e))
+
+  pub constraint-class : (c : RegClass) (x : Bool) → o .constraint ≡ Class c → x ≡ inClass sh (c .0) (o .place) → H → x ≡ constraintHolds sh (asRow o)
+  unfolding constraintHolds asRow
+  constraint-class c x e p g = rw e p
+
+  pub constraint-fixed : (r : PhysReg) (x : Bool) → o .constraint ≡ Fixed r → x ≡ samePlace (o .place) (Reg r) → H → x ≡ constraintHolds sh (asRow o)
+  unfolding constraintHolds asRow
+  constraint-fixed r x e p g = rw e p
+
+  pub constraint-reuse : (k : OperandIndex) (x : Bool) → o .constraint ≡ Reuse k → (H → x ≡ reuses sh (asRow o) (k .0)) → H → x ≡ constraintHolds sh (asRow o)
+  unfolding asRow
+  constraint-reuse k x e p g = p g ∙ sym (holds-by sh (asRow o) ∙ ap (holdsBy sh (asRow o)) e)
+
+-- ---- kinds
+
+fixed-is : (c : Constraint) → isFixed c ≡ elim c [ Class c ↦ false | Fixed r ↦ true | Reuse k ↦ false ]
+unfolding isFixed
+fixed-is (Class c) = refl
+fixed-is (Fixed r) = refl
+fixed-is (Reuse k) = refl
+
+pub fixed-own : (o : Operand) (x : Bool) → o .kind ≡ NonAllocatable → x ≡ isFixed (o .constraint) → (sh : Sheet) → x ≡ fixedHolds sh (asRow o)
+unfolding fixedHolds asRow is kindWord
+fixed-own o x e p sh = rw e (p ∙ fixed-is (o .constraint))
+
+pub fixed-other : (o : Operand) → is "fixed" (o .kind) ≡ false → (sh : Sheet) → true ≡ fixedHolds sh (asRow o)
+unfolding fixedHolds asRow
+fixed-other o e sh = rw e
+
+-- ---- groups
+
+pub group-no : (c r n : ℕ) (x : GroupRow) (h : Bool) → h ≡ headedBy c r x → not h ≡ true → false ≡ groupIs c r n x
+unfolding groupIs
+group-no c r n x h e m = rw (sym e ∙ not-true h m)
+
+pub group-long : (c r n : ℕ) (x : GroupRow) (h : Bool) (l : List ℕ) → h ≡ headedBy c r x → not h ≡ false → l ≡ x .regs → eqb (length l) n ≡ groupIs c r n x
+unfolding groupIs
+group-long c r n x h l e m q = rw (sym e ∙ not-false h m, q)
+
+pub groups-start : (t : List ℕ) (c r n m : ℕ) → m ≡ countIn t 3 → any (λ j. groupIs c r n (groupRow (sheetIn t) j)) (from 0 (m - 0)) ≡ beginsGroup (sheetIn t) c r n
+unfolding beginsGroup groupIs
+groups-start t c r n m e =
+    ap (λ (m : ℕ). any (λ j. groupIs c r n (groupRow (sheetIn t) j)) (from 0 m)) (sub-zero m ∙ e ∙ sym (long-of (groups-are t)))
+    ∙ sym (any-numbers (groupIs c r n) (record { class = 0; regs = [] }) (sheetIn t .groups))
+
+module _ (sh : Sheet) (o : Operand) (v : ℕ) where
+  abbrev groupBy : Place → Bool
+  groupBy p = elim p [ Reg r ↦ Option·elim (classFor sh (asRow o)) false (λ c. beginsGroup sh c (r .0) (length (valuesOf sh v))) | Slot s ↦ false ]
+
+  group-by : groupAt sh (asRow o) v ≡ groupBy (o .place)
+  unfolding groupAt asRow
+  group-by = refl
+
+module _ {H : Type 0} (sh : Sheet) (o : Operand) (v : ℕ) where
+  pub group-slot : (s : SpillSlot) → o .place ≡ Slot s → H → false ≡ groupAt sh (asRow o) v
+  group-slot s e g = sym (group-by sh o v ∙ ap (groupBy sh o v) e)
+
+  module _ (r : PhysReg) (e : o .place ≡ Reg r) {f : FoundClass} (q : H → f ≡ classFound (classFor sh (asRow o))) where
+    pub group-classless : f ≡ FoundClass.Nothing → H → false ≡ groupAt sh (asRow o) v
+    unfolding Option·elim
+    group-classless z g = sym (group-by sh o v ∙ ap (groupBy sh o v) e ∙ rw (class-lost (classFor sh (asRow o)) (sym z ∙ q g)))
+
+    pub group-classed : (c : RegClass) (l : List ℕ) (x : Bool) → f ≡ FoundClass.At c → l ≡ valuesOf sh v → x ≡ beginsGroup sh (c .0) (r .0) (length l) → H → x ≡ groupAt sh (asRow o) v
+    unfolding Option·elim
+    group-classed c l x z m p g =
+        p ∙ ap (λ (l : List ℕ). beginsGroup sh (c .0) (r .0) (length l)) m ∙ sym (group-by sh o v ∙ ap (groupBy sh o v) e ∙ rw (class-found (classFor sh (asRow o)) c (sym z ∙ q g)))
+
+-- a group kind, and another
+module _ (sh : Sheet) (o : Operand) where
+  abbrev grouped : OperandKind → Bool
+  grouped k = not (is "defg" k || is "useg" k || is "earlyg" k) || groupAt sh (asRow o) (subjectOf k)
+
+  grouped-is : groupHolds sh (asRow o) ≡ grouped (o .kind)
+  unfolding groupHolds groupAt asRow
+  grouped-is = refl
+
+module _ {H : Type 0} (sh : Sheet) (o : Operand) where
+  pub group-def : (v : ValueGroup) (x : Bool) → o .kind ≡ DefGroup v → (H → x ≡ groupAt sh (asRow o) (v .0)) → H → x ≡ groupHolds sh (asRow o)
+  unfolding is kindWord subjectOf
+  group-def v x e p g = p g ∙ sym (grouped-is sh o ∙ ap (grouped sh o) e)
+
+  pub group-use : (v : ValueGroup) (x : Bool) → o .kind ≡ UseGroup v → (H → x ≡ groupAt sh (asRow o) (v .0)) → H → x ≡ groupHolds sh (asRow o)
+  unfolding is kindWord subjectOf
+  group-use v x e p g = p g ∙ sym (grouped-is sh o ∙ ap (grouped sh o) e)
+
+  pub group-early : (v : ValueGroup) (x : Bool) → o .kind ≡ EarlyDefGroup v → (H → x ≡ groupAt sh (asRow o) (v .0)) → H → x ≡ groupHolds sh (asRow o)
+  unfolding is kindWord subjectOf
+  group-early v x e p g = p g ∙ sym (grouped-is sh o ∙ ap (grouped sh o) e)
+
+  pub group-other : (k : OperandKind) → o .kind ≡ k → (is "defg" k || is "useg" k || is "earlyg" k) ≡ false → H → true ≡ groupHolds sh (asRow o)
+  group-other k e n g = sym (grouped-is sh o ∙ ap (grouped sh o) e ∙ rw n)
+
+  -- one operand
+  pub op-constraint : (x : Bool) → (H → x ≡ constraintHolds sh (asRow o)) → not x ≡ true → H → false ≡ operandHolds sh (asRow o)
+  unfolding operandHolds
+  op-constraint x e n g = rw (sym (e g) ∙ not-true x n)
+
+  pub op-fixed : (y : Bool) → ((sh : Sheet) → y ≡ fixedHolds sh (asRow o)) → not y ≡ true → H → false ≡ operandHolds sh (asRow o)
+  unfolding operandHolds
+  op-fixed y e n g = let z = sym (e sh) ∙ not-true y n in sym (simp (z, and-false))
+
+  pub op-holds : (x y z : Bool) → (H → x ≡ constraintHolds sh (asRow o)) → not x ≡ false → ((sh : Sheet) → y ≡ fixedHolds sh (asRow o)) → not y ≡ false → (H → z ≡ groupHolds sh (asRow o)) → H → z ≡ operandHolds sh (asRow o)
+  unfolding operandHolds
+  op-holds x y z e n f m p g = rw (sym (e g) ∙ not-false x n, sym (f sh) ∙ not-false y m) (p g)
+
+-- REFUSAL 5
+pub ops-start : (t : List ℕ) (m : ℕ) → m ≡ countIn t 10 → all (λ j. operandHolds (sheetIn t) (opRow (sheetIn t) j)) (from 0 (m - 0)) ≡ operandsHold (sheetIn t)
+unfolding operandsHold operandHolds
+ops-start t m e =
+    ap (λ (m : ℕ). all (λ j. operandHolds (sheetIn t) (opRow (sheetIn t) j)) (from 0 m)) (sub-zero m ∙ e ∙ sym (long-of (ops-are t)))
+    ∙ sym (all-numbers (operandHolds (sheetIn t)) _ (sheetIn t .ops))
+
+pub row-held : {H : Type 0} (sh : Sheet) (n : ℕ) (o : Operand) (x : Bool) → o ≡ operandOf (opRow sh n) → (H → x ≡ operandHolds sh (asRow o)) → H → x ≡ operandHolds sh (opRow sh n)
+unfolding asRow
+row-held sh n o x e p g = p g ∙ ap (λ (o : Operand). operandHolds sh (asRow o)) e
+
+-- ---- a class, by the code's answers
+
+module _ (sh : Sheet) (c : ℕ) (p : Place) where
+  pub in-reg : (r : PhysReg) (l : List ℕ) (x : Bool) → p ≡ Reg r → l ≡ classRow sh c .members → x ≡ isIn (r .0) l → x ≡ inClass sh c p
+  unfolding inClass
+  in-reg r l x e m q = rw (e, ← m) q
+
+  pub in-slot : (s : SpillSlot) (x : Bool) → p ≡ Slot s → x ≡ classRow sh c .slots → x ≡ inClass sh c p
+  unfolding inClass
+  in-slot s x e q = rw e q
+
+pub operand-back : (f u k : ℕ) → u ≤ f → u - f ≤ k
+operand-back f u k h = omega arith

@@ -1,0 +1,416 @@
+-- The blocks that an entry reaches: as a set, and by steps. Assumes nothing.
+use mathlib.Core.Path.{_≡_, refl, sym, ap, _∙_}
+use mathlib.Core.Bool.{Bool, true, false, not, cond, _&&_, _||_, or-false, or-true, and-false, and-true, or-assoc}
+use mathlib.Core.List.{List, [], _∷_, _++_, flatMap}
+use mathlib.Core.Logic.{_⊎_, inl, inr, ⊎-elim, _↔_}
+use Prim.Native.Nat.{ℕ, zero, suc, _+_, _-_, _≤_, _<_}
+use native.Mathlib.Nat.{zero-add}
+use native.Mathlib.Numerals.{add-one}
+use native.Mathlib.Omega.{arith}
+use lib.Dec.{T, eqb, leb, ltb}
+use lib.ListN.{length, getD}
+use borrow.Author.Tests.{lt-ltb, le-ltb, eq-eqb, ne-eqb, ltb-true, eqb-true, not-true, not-false}
+use Rattle.laws.specs.Lists.{all, any, keep, isIn, from}
+use Rattle.laws.proofs.Cases.{by-bool, by-lt, by-eq}
+use Rattle.entity.specs.Limits.{blockLimit}
+use Rattle.bits.specs.Sets.{has, setOf, setLimit}
+use Rattle.bits.specs.declared.sets.NumberSet.{NumberSet}
+use Rattle.bits.proofs.Members.{has-setOf, setOf-same}
+use Rattle.rules.specs.Sheet.{Sheet, ListRow, blockCount, succsOf, listAt}
+use Rattle.rules.specs.Accept.{isEntry, blocksFrom0, blockExists, allNamed, further, reachedIn, eachIn, allReached, Reached, entry, next}
+use Rattle.table.specs.Rows.{countIn}
+use Rattle.table.specs.Sheet.{sheetIn}
+use Rattle.table.specs.Index.{Ready}
+use Rattle.table.proofs.Loops.{and-left, and-right, and-both, never, all-at, all-each, any-hit}
+use Rattle.table.proofs.Sheets.{from-long}
+use Rattle.table.proofs.Beginnings.{from-at}
+use Rattle.table.proofs.Lookups.{few-blocks, all-named, succs-named}
+use Rattle.accept.specs.Blocks.{reachSet}
+use Rattle.accept.proofs.Blockwise.{blocks-start, blocks-long}
+
+-- two tests of which each says the other
+pub same-bool : (a b : Bool) → (a ≡ true → b ≡ true) → (b ≡ true → a ≡ true) → a ≡ b
+same-bool true true f g = refl
+same-bool true false f g = sym (f refl)
+same-bool false true f g = g refl
+same-bool false false f g = refl
+
+pub or-cases : {C : Type 0} (a b : Bool) → (a || b) ≡ true → (a ≡ true → C) → (b ≡ true → C) → C
+or-cases true b e f g = f refl
+or-cases false b e f g = g e
+
+pub or-right : (a b : Bool) → b ≡ true → (a || b) ≡ true
+or-right a b e = rw e (or-true a)
+
+pub or-left : (a b : Bool) → a ≡ true → (a || b) ≡ true
+or-left a b e = rw e
+
+-- one of a list
+pub any-at : {A : Type 0} (f : A → Bool) (d : A) (l : List A) → any f l ≡ true → (j : ℕ) × (j < length l) × (f (getD l j d) ≡ true)
+unfolding any
+any-at f d [] e = never e
+any-at f d (x ∷ l) e =
+    by-bool (f x) (λ p. (0, omega arith, p))
+    (λ p. let w = any-at f d l (rw p at e) in (suc (w .0), omega (arith, w .1), w .2))
+
+pub in-hit : (l : List ℕ) (j : ℕ) → j < length l → isIn (getD l j 0) l ≡ true
+unfolding isIn
+in-hit l j h = any-hit (eqb (getD l j 0)) 0 l j h (eq-eqb (getD l j 0) (getD l j 0) refl)
+
+pub in-any : (f : ℕ → Bool) (l : List ℕ) (x : ℕ) → isIn x l ≡ true → f x ≡ true → any f l ≡ true
+unfolding isIn
+in-any f l x p q =
+    let w = any-at (eqb x) 0 l p in
+    let z : x ≡ getD l (w .0) 0 = eqb-true x (getD l (w .0) 0) (w .2) in
+    any-hit f 0 l (w .0) (w .1) (rw z at q)
+
+-- ---- the numbers below n that pass a test
+
+module _ (f : ℕ → Bool) where
+  keep-low : (a n k : ℕ) → k < a → isIn k (keep f (from a n)) ≡ false
+  unfolding isIn any keep from
+  keep-low a zero k h = refl
+  keep-low a (suc n) k h =
+      by-bool (f a) (λ e. rw (e, ne-eqb k a (λ q. omega arith)) (keep-low (suc a) n k (omega arith))) (λ e. rw e (keep-low (suc a) n k (omega arith)))
+
+  keep-from : (a n k : ℕ) → a ≤ k → isIn k (keep f (from a n)) ≡ (ltb k (a + n) && f k)
+  unfolding isIn any keep from
+  keep-from a zero k h = rw (le-ltb k (a + 0) (omega arith))
+  keep-from a (suc n) k h =
+      by-eq k a
+      (λ q.
+      by-bool (f a)
+      (λ e. rw (e, eq-eqb k a q, lt-ltb k (a + suc n) (omega arith), q, e))
+      (λ e. let z : f k ≡ false = ap f q ∙ e in rw (e, z, and-false) (keep-low (suc a) n k (omega arith))))
+      (λ d.
+      let m : suc a + n ≡ a + suc n = omega arith in
+      let rest = keep-from (suc a) n k (omega arith) in
+      by-bool (f a) (λ e. rw (e, ne-eqb k a d, ← m) rest) (λ e. rw (e, ← m) rest))
+
+  pub keep-in : (n k : ℕ) → isIn k (keep f (from 0 n)) ≡ (ltb k n && f k)
+  keep-in n k = keep-from 0 n k (omega arith) ∙ ap (λ (m : ℕ). ltb k m && f k) (omega arith)
+
+pub from-hit : (f : ℕ → Bool) (n x : ℕ) → x < n → f x ≡ true → any f (from 0 n) ≡ true
+from-hit f n x h e =
+    let z : getD (from 0 n) x 0 ≡ x = from-at 0 n x h ∙ omega arith in
+    any-hit f 0 (from 0 n) x (rw (from-long 0 n) h) (rw z e)
+
+pub from-some : (f : ℕ → Bool) (n : ℕ) → any f (from 0 n) ≡ true → (x : ℕ) × (x < n) × (f x ≡ true)
+from-some f n e =
+    let w = any-at f 0 (from 0 n) e in
+    let h : w .0 < n = rw (from-long 0 n) at (w .1) in
+    let z : getD (from 0 n) (w .0) 0 ≡ w .0 = from-at 0 n (w .0) h ∙ omega arith in
+    (w .0, h, rw z at (w .2))
+
+-- ---- by steps
+
+module _ (sh : Sheet) where
+  abbrev n : ℕ
+  n = blockCount sh
+
+  abbrev R : ℕ → List ℕ
+  R m = reachedIn sh m
+
+  -- what is reached is a block
+  pub reached-below : (m k : ℕ) → isIn k (R m) ≡ true → k < n
+  unfolding reachedIn further
+  reached-below zero k e = ltb-true k n (and-left (ltb k n) (isEntry sh k) (sym (keep-in (isEntry sh) n k) ∙ e))
+  reached-below (suc m) k e =
+      ltb-true k n (and-left (ltb k n) (isIn k (R m) || any (λ a. isIn k (succsOf sh a)) (R m)) (sym (keep-in (λ b. isIn b (R m) || any (λ a. isIn b (succsOf sh a)) (R m)) n k) ∙ e))
+
+  pub reached-start : (k : ℕ) → isIn k (R 0) ≡ (ltb k n && isEntry sh k)
+  unfolding reachedIn
+  reached-start k = keep-in (isEntry sh) n k
+
+  pub reached-next : (m k : ℕ) → isIn k (R (suc m)) ≡ (ltb k n && (isIn k (R m) || any (λ a. isIn k (succsOf sh a)) (R m)))
+  unfolding reachedIn further
+  reached-next m k = keep-in (λ b. isIn b (R m) || any (λ a. isIn b (succsOf sh a)) (R m)) n k
+
+  -- reached once, reached later
+  pub reached-more : (m k : ℕ) → isIn k (R m) ≡ true → isIn k (R (suc m)) ≡ true
+  reached-more m k e = reached-next m k ∙ and-both (ltb k n) _ (lt-ltb k n (reached-below m k e)) (or-left (isIn k (R m)) _ e)
+
+  pub reached-later : (d m k : ℕ) → isIn k (R m) ≡ true → isIn k (R (m + d)) ≡ true
+  reached-later zero m k e = let z : m + 0 ≡ m = omega arith in rw z e
+  reached-later (suc d) m k e = let z : m + suc d ≡ suc (m + d) = omega arith in rw z (reached-more (m + d) k (reached-later d m k e))
+
+  pub each-later : (m : ℕ) → m ≤ n → eachIn sh (R m) ≡ true → allReached sh ≡ true
+  unfolding allReached eachIn
+  each-later m h e =
+      let z : m + (n - m) ≡ n = omega arith in
+      all-each (λ b. isIn b (R n)) 0 (blocksFrom0 sh)
+      (λ j u. rw z at (reached-later (n - m) m (getD (blocksFrom0 sh) j 0) (all-at (λ b. isIn b (R m)) 0 (blocksFrom0 sh) e j u)))
+
+  pub all-reached : (m : ℕ) → m ≡ n → eachIn sh (R m) ≡ allReached sh
+  unfolding allReached
+  all-reached m e = ap (λ (m : ℕ). eachIn sh (R m)) e
+
+  -- the successors' test, over all blocks
+  pub succs-any : (m k : ℕ) → any (λ a. isIn a (R m) && isIn k (succsOf sh a)) (from 0 n) ≡ any (λ a. isIn k (succsOf sh a)) (R m)
+  succs-any m k =
+      same-bool _ _
+      (λ e.
+      let w = from-some (λ a. isIn a (R m) && isIn k (succsOf sh a)) n e in
+      let p : isIn (w .0) (R m) ≡ true = and-left (isIn (w .0) (R m)) (isIn k (succsOf sh (w .0))) (w .2) in
+      let q : isIn k (succsOf sh (w .0)) ≡ true = and-right (isIn (w .0) (R m)) (isIn k (succsOf sh (w .0))) (w .2) in
+      in-any (λ a. isIn k (succsOf sh a)) (R m) (w .0) p q)
+      (λ e.
+      let w = any-at (λ a. isIn k (succsOf sh a)) 0 (R m) e in
+      let x = getD (R m) (w .0) 0 in
+      let p : isIn x (R m) ≡ true = in-hit (R m) (w .0) (w .1) in
+      from-hit (λ a. isIn a (R m) && isIn k (succsOf sh a)) n x (reached-below m x p) (and-both (isIn x (R m)) (isIn k (succsOf sh x)) p (w .2)))
+
+-- ---- as sets
+
+any-last : (f : ℕ → Bool) (a n : ℕ) → any f (from a (suc n)) ≡ (any f (from a n) || f (a + n))
+unfolding any from
+any-last f a zero = let e : a + 0 ≡ a = omega arith in rw e (or-false (f a))
+any-last f a (suc n) =
+    let e : suc a + n ≡ a + suc n = omega arith in
+    rw (any-last f (suc a) n, e) (sym (or-assoc (f a) (any f (from (suc a) n)) (f (a + suc n))))
+
+pub any-more : (f : ℕ → Bool) (b : ℕ) → any f (from 0 (b + 1)) ≡ (any f (from 0 b) || f b)
+any-more f b = ap (λ (m : ℕ). any f (from 0 m)) (add-one b) ∙ any-last f 0 b ∙ ap (λ (m : ℕ). any f (from 0 b) || f m) (omega arith)
+
+-- what a list of rows lists
+any-append : {A : Type 0} (f : A → Bool) (l r : List A) → any f (l ++ r) ≡ (any f l || any f r)
+unfolding any
+any-append f [] r = refl
+any-append f (x ∷ l) r = rw (any-append f l r) (sym (or-assoc (f x) (any f l) (any f r)))
+
+listed-in : (sh : Sheet) (p : ListRow → Bool) (q : ℕ → Bool) (rows : List ListRow) (a k : ℕ) → all (λ s. p s && all q (s .list)) rows ≡ true → isIn k (listAt sh rows a) ≡ true → q k ≡ true
+unfolding all isIn any listAt keep flatMap
+listed-in sh p q [] a k e h = never h
+listed-in sh p q (r ∷ rows) a k e h =
+    let here = and-right (p r) (all q (r .list)) (and-left (p r && all q (r .list)) (all (λ s. p s && all q (s .list)) rows) e) in
+    let rest = and-right (p r && all q (r .list)) (all (λ s. p s && all q (s .list)) rows) e in
+    by-bool (eqb (r .at) a)
+    (λ t.
+    or-cases (isIn k (r .list)) (isIn k (listAt sh rows a)) (sym (any-append (eqb k) (r .list) (listAt sh rows a)) ∙ rw t at h)
+    (λ z. let w = any-at (eqb k) 0 (r .list) z in rw (eqb-true k (getD (r .list) (w .0) 0) (w .2)) (all-at q 0 (r .list) here (w .0) (w .1)))
+    (λ z. listed-in sh p q rows a k rest z))
+    (λ t. listed-in sh p q rows a k rest (rw t at h))
+
+module _ {t : List ℕ} (g : Ready t) where
+  abbrev sh : Sheet
+  sh = sheetIn t
+
+  few : blockCount sh ≤ blockLimit
+  few = few-blocks sh (g .limits)
+
+  succ-below : (a k : ℕ) → isIn k (succsOf sh a) ≡ true → k < blockCount sh
+  succ-below a k e = ltb-true k (blockCount sh) (listed-in sh (λ s. blockExists sh (s .at)) (blockExists sh) (sh .succs) a k (succs-named sh (all-named sh (g .names))) e)
+
+  -- membership in the set of those reached
+  pub reach-has : (s : NumberSet) (m b c : ℕ) → s ≡ reachSet sh m → c ≡ countIn t 6 → b < c → has s b ≡ isIn b (reachedIn sh m)
+  unfolding reachSet
+  reach-has s m b c e q h = rw e (has-setOf (λ k. isIn k (reachedIn sh m)) b (omega (arith, few, blocks-long t c q)))
+
+  pub each-start : (m c : ℕ) → c ≡ countIn t 6 → all (λ b. isIn b (reachedIn sh m)) (from 0 (c - 0)) ≡ eachIn sh (reachedIn sh m)
+  unfolding eachIn
+  each-start m c e = blocks-start t (λ b. isIn b (reachedIn sh m)) c e
+
+  pub reached-early : (m c : ℕ) → c ≡ countIn t 6 → m ≤ c → {r : Bool} → r ≡ eachIn sh (reachedIn sh m) → r ≡ true → true ≡ allReached sh
+  reached-early m c q l e z = sym (each-later sh m (omega (arith, blocks-long t c q)) (sym e ∙ z))
+
+  pub reached-last : (m c : ℕ) → c ≡ countIn t 6 → m ≤ c → c ≤ m → {r : Bool} → r ≡ eachIn sh (reachedIn sh m) → r ≡ allReached sh
+  reached-last m c q l u e = e ∙ all-reached sh m (omega (arith, blocks-long t c q))
+
+  -- the entries up to b
+  abbrev pub Entries : ℕ → NumberSet → Type 0
+  Entries b s = s ≡ setOf (λ k. ltb k b && isEntry sh k)
+
+  pub entries-none : (s : NumberSet) → s ≡ setOf (λ k. false) → Entries 0 s
+  entries-none s e = e ∙ setOf-same (λ k. false) (λ k. ltb k 0 && isEntry sh k) (λ k h. rw (le-ltb k 0 (omega arith)))
+
+  later-bit : (b k : ℕ) → (k ≡ b → ⊥) → ltb k (b + 1) ≡ ltb k b
+  later-bit b k d = by-lt k b (λ h. rw (lt-ltb k b h, lt-ltb k (b + 1) (omega arith))) (λ h. rw (le-ltb k b h, le-ltb k (b + 1) (omega arith)))
+
+  pub entries-hit : (b : ℕ) (s s′ : NumberSet) → Entries b s → isEntry sh b ≡ true → s′ ≡ setOf (λ k. has s k || eqb k b) → Entries (b + 1) s′
+  entries-hit b s s′ i e q =
+      q
+      ∙ setOf-same (λ k. has s k || eqb k b) (λ k. ltb k (b + 1) && isEntry sh k)
+      (λ k h.
+      rw (i, has-setOf (λ k. ltb k b && isEntry sh k) k h)
+      (by-eq k b (λ z. rw (z, e, eq-eqb b b refl, lt-ltb b (b + 1) (omega arith)) (or-true (ltb b b && true))) (λ d. rw (ne-eqb k b d, later-bit b k d) (or-false (ltb k b && isEntry sh k)))))
+
+  pub entries-miss : (b : ℕ) (s : NumberSet) → Entries b s → isEntry sh b ≡ false → Entries (b + 1) s
+  entries-miss b s i e =
+      i
+      ∙ setOf-same (λ k. ltb k b && isEntry sh k) (λ k. ltb k (b + 1) && isEntry sh k)
+      (λ k h. by-eq k b (λ z. rw (z, e, and-false, and-false)) (λ d. rw (later-bit b k d)))
+
+  pub entries-end : (s : NumberSet) (b c : ℕ) → c ≡ countIn t 6 → b ≤ c → c ≤ b → Entries b s → s ≡ reachSet sh 0
+  unfolding reachSet
+  entries-end s b c q l u i = let z : b ≡ blockCount sh = omega (arith, blocks-long t c q) in rw z at i ∙ setOf-same (λ k. ltb k (blockCount sh) && isEntry sh k) (λ k. isIn k (reachedIn sh 0)) (λ k h. sym (reached-start sh k))
+
+  -- one step further, from the blocks up to b
+  abbrev stepped : ℕ → ℕ → ℕ → Bool
+  stepped m b k = isIn k (reachedIn sh m) || any (λ a. isIn a (reachedIn sh m) && isIn k (succsOf sh a)) (from 0 b)
+
+  abbrev pub Stepped : ℕ → ℕ → NumberSet → Type 0
+  Stepped m b s = s ≡ setOf (stepped m b)
+
+  pub stepped-none : (m : ℕ) (s : NumberSet) → s ≡ reachSet sh m → Stepped m 0 s
+  unfolding reachSet any from
+  stepped-none m s e = e ∙ setOf-same (λ k. isIn k (reachedIn sh m)) (stepped m 0) (λ k h. sym (or-false (isIn k (reachedIn sh m))))
+
+  pub stepped-hit : (m b : ℕ) (s s′ : NumberSet) (l : List ℕ) → Stepped m b s → isIn b (reachedIn sh m) ≡ true → l ≡ succsOf sh b → s′ ≡ setOf (λ k. has s k || isIn k l) → Stepped m (b + 1) s′
+  stepped-hit m b s s′ l i e z q =
+      q
+      ∙ setOf-same (λ k. has s k || isIn k l) (stepped m (b + 1))
+      (λ k h.
+      rw (i, has-setOf (stepped m b) k h, z, any-more (λ a. isIn a (reachedIn sh m) && isIn k (succsOf sh a)) b, e)
+      (or-assoc (isIn k (reachedIn sh m)) (any (λ a. isIn a (reachedIn sh m) && isIn k (succsOf sh a)) (from 0 b)) (isIn k (succsOf sh b))))
+
+  pub stepped-miss : (m b : ℕ) (s : NumberSet) → Stepped m b s → isIn b (reachedIn sh m) ≡ false → Stepped m (b + 1) s
+  stepped-miss m b s i e =
+      i ∙ setOf-same (stepped m b) (stepped m (b + 1)) (λ k h. rw (any-more (λ a. isIn a (reachedIn sh m) && isIn k (succsOf sh a)) b, e, or-false))
+
+  pub stepped-end : (m : ℕ) (s : NumberSet) (b c : ℕ) → c ≡ countIn t 6 → b ≤ c → c ≤ b → Stepped m b s → s ≡ reachSet sh (m + 1)
+  unfolding reachSet
+  stepped-end m s b c q l u i =
+      let z : b ≡ blockCount sh = omega (arith, blocks-long t c q) in
+      rw z at i
+      ∙ setOf-same (stepped m (blockCount sh)) (λ k. isIn k (reachedIn sh (m + 1)))
+      (λ k h.
+      rw (add-one m, reached-next sh m k, succs-any sh m k)
+      (by-lt k (blockCount sh) (λ l. rw (lt-ltb k (blockCount sh) l))
+      (λ l.
+      rw (le-ltb k (blockCount sh) l)
+      (by-bool (isIn k (reachedIn sh m) || any (λ a. isIn k (succsOf sh a)) (reachedIn sh m))
+      (λ e.
+      or-cases (isIn k (reachedIn sh m)) (any (λ a. isIn k (succsOf sh a)) (reachedIn sh m)) e
+      (λ z. absurd (omega (arith, reached-below sh m k z)))
+      (λ z. let w = any-at (λ a. isIn k (succsOf sh a)) 0 (reachedIn sh m) z in absurd (omega (arith, succ-below (getD (reachedIn sh m) (w .0) 0) k (w .2)))))
+      (λ e. e)))))
+
+-- ---- as many steps as there are blocks are enough
+
+module _ {A : Type 0} (f h : A → Bool) (d : A) (le : (x : A) → f x ≡ true → h x ≡ true) where
+  abbrev Grown : List A → Type 0
+  Grown l = (length (keep f l) < length (keep h l)) ⊎ ((length (keep f l) ≡ length (keep h l)) × ((j : ℕ) → j < length l → h (getD l j d) ≡ true → f (getD l j d) ≡ true))
+
+  each-cons : (x : A) (l : List A) → (h x ≡ true → f x ≡ true) → ((j : ℕ) → j < length l → h (getD l j d) ≡ true → f (getD l j d) ≡ true)
+      → (j : ℕ) → j < length (x ∷ l) → h (getD (x ∷ l) j d) ≡ true → f (getD (x ∷ l) j d) ≡ true
+  each-cons x l p q zero u e = p e
+  each-cons x l p q (suc j) u e = q j (omega arith) e
+
+  -- more pass, or the same
+  grows : (l : List A) → Grown l
+  unfolding keep
+  grows [] = inr (refl, λ j u. absurd (omega arith))
+  grows (x ∷ l) =
+      by-bool (f x)
+      (λ e.
+      rw (e, le x e)
+      (⊎-elim (λ w. inl (omega arith)) (λ w. inr (ap suc (w .0), each-cons x l (λ q. e) (w .1))) (grows l)))
+      (λ e.
+      by-bool (h x)
+      (λ q. rw (e, q) (inl (⊎-elim (λ w. omega arith) (λ w. omega (arith, w .0)) (grows l))))
+      (λ q. rw (e, q) (⊎-elim (λ w. inl w) (λ w. inr (w .0, each-cons x l (λ z. never (sym q ∙ z)) (w .1))) (grows l))))
+
+holds : (b : Bool) → b ≡ true → T b
+holds true e = tt
+holds false e = never e
+
+held : (b : Bool) → T b → b ≡ true
+held true x = refl
+
+keep-most : {A : Type 0} (f : A → Bool) (l : List A) → length (keep f l) ≤ length l
+unfolding keep
+keep-most f [] = omega arith
+keep-most f (x ∷ l) = by-bool (f x) (λ e. rw e (omega (arith, keep-most f l))) (λ e. rw e (omega (arith, keep-most f l)))
+
+keep-all : {A : Type 0} (l : List A) → keep (λ x. true) l ≡ l
+unfolding keep
+keep-all [] = refl
+keep-all (x ∷ l) = ap (λ (y : _). x ∷ y) (keep-all l)
+
+module _ (sh : Sheet) where
+  abbrev size : ℕ → ℕ
+  size m = length (keep (λ k. isIn k (reachedIn sh m)) (blocksFrom0 sh))
+
+  Closed : ℕ → Type 0
+  Closed m = (k : ℕ) → isIn k (reachedIn sh (suc m)) ≡ true → isIn k (reachedIn sh m) ≡ true
+
+  block-at : (k : ℕ) → k < blockCount sh → getD (blocksFrom0 sh) k 0 ≡ k
+  block-at k h = from-at 0 (blockCount sh) k h ∙ omega arith
+
+  -- a step that adds none, or one block more
+  closed-or : (m : ℕ) → Closed m ⊎ (size m < size (suc m))
+  unfolding Closed
+  closed-or m =
+      ⊎-elim (λ w. inr w)
+      (λ w. inl (λ k e.
+      let h = reached-below sh (suc m) k e in
+      let z = block-at k h in
+      rw z at (w .1 k (rw (from-long 0 (blockCount sh)) h) (rw z e))))
+      (grows (λ k. isIn k (reachedIn sh m)) (λ k. isIn k (reachedIn sh (suc m))) 0 (reached-more sh m) (blocksFrom0 sh))
+
+  closed-next : (m : ℕ) → Closed m → Closed (suc m)
+  unfolding Closed
+  closed-next m c k e =
+      let p = sym (reached-next sh (suc m) k) ∙ e in
+      or-cases (isIn k (reachedIn sh (suc m))) (any (λ a. isIn k (succsOf sh a)) (reachedIn sh (suc m)))
+      (and-right (ltb k (blockCount sh)) (isIn k (reachedIn sh (suc m)) || any (λ a. isIn k (succsOf sh a)) (reachedIn sh (suc m))) p)
+      (λ z. z)
+      (λ z.
+      let w = any-at (λ a. isIn k (succsOf sh a)) 0 (reachedIn sh (suc m)) z in
+      let a = getD (reachedIn sh (suc m)) (w .0) 0 in
+      let q = c a (in-hit (reachedIn sh (suc m)) (w .0) (w .1)) in
+      reached-next sh m k
+      ∙ and-both (ltb k (blockCount sh)) (isIn k (reachedIn sh m) || any (λ a. isIn k (succsOf sh a)) (reachedIn sh m)) (lt-ltb k (blockCount sh) (reached-below sh (suc (suc m)) k e))
+      (or-right (isIn k (reachedIn sh m)) (any (λ a. isIn k (succsOf sh a)) (reachedIn sh m)) (in-any (λ a. isIn k (succsOf sh a)) (reachedIn sh m) a q (w .2))))
+
+  closed-by : (m : ℕ) → Closed m ⊎ (m ≤ size m)
+  closed-by zero = inr (omega arith)
+  closed-by (suc m) =
+      ⊎-elim (λ c. inl (closed-next m c)) (λ l. ⊎-elim (λ c. inl (closed-next m c)) (λ u. inr (omega arith)) (closed-or m)) (closed-by m)
+
+  -- then all are reached
+  full : blockCount sh ≤ size (blockCount sh) → (k : ℕ) → k < blockCount sh → isIn k (reachedIn sh (blockCount sh)) ≡ true
+  full l k h =
+      ⊎-elim
+      (λ w. absurd (omega (arith, l, rw (keep-all (blocksFrom0 sh)) at w, from-long 0 (blockCount sh))))
+      (λ w. rw (block-at k h) at (w .1 k (rw (from-long 0 (blockCount sh)) h) refl))
+      (grows (λ k. isIn k (reachedIn sh (blockCount sh))) (λ k. true) 0 (λ x e. refl) (blocksFrom0 sh))
+
+  closed-last : Closed (blockCount sh)
+  unfolding Closed
+  closed-last = ⊎-elim (λ c. c) (λ l k e. full l k (reached-below sh (suc (blockCount sh)) k e)) (closed-by (blockCount sh))
+
+  steps-sound : (m k : ℕ) → isIn k (reachedIn sh m) ≡ true → Reached sh k
+  steps-sound zero k e = entry (holds (ltb k (blockCount sh) && isEntry sh k) (sym (reached-start sh k) ∙ e))
+  steps-sound (suc m) k e =
+      let p = sym (reached-next sh m k) ∙ e in
+      let l = and-left (ltb k (blockCount sh)) (isIn k (reachedIn sh m) || any (λ a. isIn k (succsOf sh a)) (reachedIn sh m)) p in
+      or-cases (isIn k (reachedIn sh m)) (any (λ a. isIn k (succsOf sh a)) (reachedIn sh m))
+      (and-right (ltb k (blockCount sh)) (isIn k (reachedIn sh m) || any (λ a. isIn k (succsOf sh a)) (reachedIn sh m)) p)
+      (λ z. steps-sound m k z)
+      (λ z.
+      let w = any-at (λ a. isIn k (succsOf sh a)) 0 (reachedIn sh m) z in
+      next {a = getD (reachedIn sh m) (w .0) 0} (steps-sound m (getD (reachedIn sh m) (w .0) 0) (in-hit (reachedIn sh m) (w .0) (w .1)))
+      (holds (ltb k (blockCount sh) && isIn k (succsOf sh (getD (reachedIn sh m) (w .0) 0))) (and-both (ltb k (blockCount sh)) (isIn k (succsOf sh (getD (reachedIn sh m) (w .0) 0))) l (w .2))))
+
+  steps-complete : {k : ℕ} → Reached sh k → isIn k (reachedIn sh (blockCount sh)) ≡ true
+  unfolding Closed
+  steps-complete (entry {b = k} x) = rw zero-add at (reached-later sh (blockCount sh) 0 k (reached-start sh k ∙ held (ltb k (blockCount sh) && isEntry sh k) x))
+  steps-complete (next {a = a} {b = k} r x) =
+      let y = held (ltb k (blockCount sh) && isIn k (succsOf sh a)) x in
+      closed-last k
+      (reached-next sh (blockCount sh) k
+      ∙ and-both (ltb k (blockCount sh)) (isIn k (reachedIn sh (blockCount sh)) || any (λ a. isIn k (succsOf sh a)) (reachedIn sh (blockCount sh))) (and-left (ltb k (blockCount sh)) (isIn k (succsOf sh a)) y)
+      (or-right (isIn k (reachedIn sh (blockCount sh))) (any (λ a. isIn k (succsOf sh a)) (reachedIn sh (blockCount sh)))
+      (in-any (λ a. isIn k (succsOf sh a)) (reachedIn sh (blockCount sh)) a (steps-complete r) (and-right (ltb k (blockCount sh)) (isIn k (succsOf sh a)) y))))
+
+  -- ENOUGH
+  pub reached-by-steps : (allReached sh ≡ true) ↔ ((b : ℕ) → b < blockCount sh → Reached sh b)
+  unfolding allReached eachIn
+  reached-by-steps = (
+    λ e b h.
+        steps-sound (blockCount sh) b (rw (block-at b h) at (all-at (λ b. isIn b (reachedIn sh (blockCount sh))) 0 (blocksFrom0 sh) e b (rw (from-long 0 (blockCount sh)) h))),
+    λ f.
+        all-each (λ b. isIn b (reachedIn sh (blockCount sh))) 0 (blocksFrom0 sh)
+        (λ j u. let h : j < blockCount sh = rw (from-long 0 (blockCount sh)) at u in rw (block-at j h) (steps-complete (f j h))),
+  )

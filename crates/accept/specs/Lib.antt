@@ -1,0 +1,4 @@
+pub mod Graph
+pub mod Blocks
+pub mod Operands
+pub mod Pairs

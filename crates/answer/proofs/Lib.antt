@@ -1,0 +1,9 @@
+pub mod Laying
+pub mod Numbers
+pub mod Cells
+pub mod Lines
+pub mod Runs
+pub mod Ops
+pub mod Folds
+pub mod Few
+pub mod Answer

@@ -1,0 +1,14 @@
+pub mod Members
+pub mod Down
+pub mod Blocks
+pub mod Sums
+pub mod Given
+pub mod Tell
+pub mod Settling
+pub mod Counting
+pub mod Striking
+pub mod Overall
+pub mod Numbers
+pub mod Linking
+pub mod Facing
+pub mod Whole

@@ -1,0 +1,4 @@
+pub mod Slots
+pub mod Worklist
+pub mod Strikes
+pub mod Held

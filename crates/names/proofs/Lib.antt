@@ -1,0 +1,5 @@
+pub mod Rows
+pub mod Sets
+pub mod Naming
+pub mod Totals
+pub mod Within

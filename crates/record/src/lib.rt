@@ -1,0 +1,3 @@
+// The record of a walk: its flat table, and what each event makes of it.
+pub mod flat;
+pub mod steps;

@@ -1,0 +1,221 @@
+// What each event makes of the record: the rules of `rules/specs/Record.antt`, one function each.
+use crate::flat::HELD;
+use crate::flat::LENGTH;
+use crate::flat::NONE;
+use crate::flat::STORED;
+use crate::flat::define_in;
+use crate::flat::held;
+use crate::flat::hold;
+use crate::flat::note_unit;
+use crate::flat::noted_reg;
+use crate::flat::noted_value;
+use crate::flat::spill_in;
+use crate::flat::store;
+use crate::flat::unit_reg;
+use crate::flat::unit_value;
+use crate::flat::write_unit;
+use entity::forms::Edit;
+use entity::forms::Place;
+use entity::numbers::Block;
+use entity::numbers::PhysReg;
+use entity::numbers::RegUnit;
+use entity::numbers::SpillSlot;
+use entity::numbers::Value;
+use table::view::FoundSlot;
+use table::view::home;
+use table::view::units;
+
+// Register r holds v.
+pub fn holds(rec: &[u32; LENGTH], r: PhysReg, v: Value) -> bool {
+    held(rec, r) == v.0
+}
+
+pub fn take_from(rec: &mut [u32; LENGTH], r: PhysReg, v: Value) {
+    if holds(rec, r, v) {
+        hold(rec, r, Value(NONE));
+    }
+}
+
+pub fn forget_unit(rec: &mut [u32; LENGTH], u: RegUnit) {
+    let r = unit_reg(rec, u);
+    let v = unit_value(rec, u);
+    take_from(rec, PhysReg(r), Value(v));
+    write_unit(rec, u, PhysReg(NONE), Value(NONE));
+}
+
+// x, unless it is v: then `NONE`.
+fn without(x: u32, v: u32) -> u32 {
+    if x == v { NONE } else { x }
+}
+
+// No register holds v.
+pub fn drop_value(rec: &mut [u32; LENGTH], v: Value) {
+    let mut i = HELD;
+    while i < STORED {
+        let x = rec[i];
+        rec[i] = without(x, v.0);
+        i += 1;
+    }
+}
+
+pub fn forget_units(rec: &mut [u32; LENGTH], us: &[u32]) {
+    let mut k: usize = 0;
+    while k < us.len() {
+        forget_unit(rec, RegUnit(us[k]));
+        k += 1;
+    }
+}
+
+pub fn write_units(rec: &mut [u32; LENGTH], us: &[u32], r: PhysReg, v: Value) {
+    let mut k: usize = 0;
+    while k < us.len() {
+        write_unit(rec, RegUnit(us[k]), r, v);
+        k += 1;
+    }
+}
+
+// Register r's units are forgotten, and then written with v.
+pub fn overwrite(t: &[u32], rec: &mut [u32; LENGTH], r: PhysReg, v: Value) {
+    let us = units(t, r);
+    forget_units(rec, us);
+    write_units(rec, us, r, v);
+}
+
+// v's home slot holds nothing.
+pub fn empty_home(t: &[u32], rec: &mut [u32; LENGTH], v: Value) {
+    match home(t, v) {
+        FoundSlot::At(h) => store(rec, h, Value(NONE)),
+        FoundSlot::Nothing => {}
+    }
+}
+
+// Slot s is v's home slot.
+pub fn is_home(t: &[u32], v: Value, s: SpillSlot) -> bool {
+    match home(t, v) {
+        FoundSlot::At(h) => h.0 == s.0,
+        FoundSlot::Nothing => false,
+    }
+}
+
+fn define_in_reg(t: &[u32], rec: &mut [u32; LENGTH], v: Value, r: PhysReg) {
+    overwrite(t, rec, r, v);
+    drop_value(rec, v);
+    hold(rec, r, v);
+    empty_home(t, rec, v);
+}
+
+fn define_in_slot(t: &[u32], rec: &mut [u32; LENGTH], b: Block, v: Value, s: SpillSlot) {
+    drop_value(rec, v);
+    if is_home(t, v, s) {
+        store(rec, s, v);
+        spill_in(rec, b, v);
+    } else {
+        empty_home(t, rec, v);
+        store(rec, s, Value(NONE));
+    }
+}
+
+// Value v is defined in block b at a place.
+pub fn define(t: &[u32], rec: &mut [u32; LENGTH], b: Block, v: Value, place: Place) {
+    define_in(rec, b, v);
+    match place {
+        Place::Reg(r) => define_in_reg(t, rec, v, r),
+        Place::Slot(s) => define_in_slot(t, rec, b, v, s),
+    }
+}
+
+// A move or remat of v to a place.
+pub fn arrive(t: &[u32], rec: &mut [u32; LENGTH], v: Value, to: Place) {
+    match to {
+        Place::Reg(r) => {
+            overwrite(t, rec, r, v);
+            hold(rec, r, v);
+        }
+        Place::Slot(s) => {
+            if is_home(t, v, s) {
+                store(rec, s, v);
+            } else {
+                store(rec, s, Value(NONE));
+            }
+        }
+    }
+}
+
+pub fn espill(t: &[u32], rec: &mut [u32; LENGTH], r: PhysReg) {
+    let us = units(t, r);
+    let mut k: usize = 0;
+    while k < us.len() {
+        note_unit(rec, RegUnit(us[k]));
+        k += 1;
+    }
+}
+
+// A note is written back, if there is one.
+fn write_back(rec: &mut [u32; LENGTH], u: RegUnit) {
+    let r = noted_reg(rec, u);
+    if r == NONE {
+        return;
+    }
+    let v = noted_value(rec, u);
+    write_unit(rec, u, PhysReg(r), Value(v));
+}
+
+// The last write of each unit is of v.
+fn all_written(rec: &[u32; LENGTH], us: &[u32], v: u32) -> bool {
+    let mut k: usize = 0;
+    while k < us.len() {
+        if unit_value(rec, RegUnit(us[k])) != v {
+            return false;
+        }
+        k += 1;
+    }
+    true
+}
+
+// A noted register is added where it has one unit or all its units' last writes are of that value.
+fn add_back(t: &[u32], rec: &mut [u32; LENGTH], u: RegUnit) {
+    let r = noted_reg(rec, u);
+    let v = noted_value(rec, u);
+    if r == NONE {
+        return;
+    }
+    let us = units(t, PhysReg(r));
+    if us.len() == 1 || all_written(rec, us, v) {
+        hold(rec, PhysReg(r), Value(v));
+    }
+}
+
+fn write_all_back(rec: &mut [u32; LENGTH], us: &[u32]) {
+    let mut k: usize = 0;
+    while k < us.len() {
+        write_back(rec, RegUnit(us[k]));
+        k += 1;
+    }
+}
+
+fn add_all_back(t: &[u32], rec: &mut [u32; LENGTH], us: &[u32]) {
+    let mut k: usize = 0;
+    while k < us.len() {
+        add_back(t, rec, RegUnit(us[k]));
+        k += 1;
+    }
+}
+
+pub fn ereload(t: &[u32], rec: &mut [u32; LENGTH], r: PhysReg) {
+    let us = units(t, r);
+    forget_units(rec, us);
+    write_all_back(rec, us);
+    add_all_back(t, rec, us);
+}
+
+// What an edit makes of the record.
+pub fn effect(t: &[u32], rec: &mut [u32; LENGTH], e: Edit) {
+    match e {
+        Edit::Move { to, from: _, value } => arrive(t, rec, value, to),
+        Edit::Remat { to, value } => arrive(t, rec, value, to),
+        Edit::Espill { to: _, from } => espill(t, rec, from),
+        Edit::Ereload { to, from: _ } => ereload(t, rec, to),
+        Edit::Misplaced { to: _, from: _ } => {}
+        Edit::Nothing => {}
+    }
+}
