@@ -1,1 +1,3 @@
 pub mod Sections
+pub mod Changes
+pub mod Rules

@@ -1,9 +1,10 @@
 -- The record in its flat table: its eight lists, one after the other.
+use mathlib.Core.Path.{_≡_}
 use mathlib.Core.Bool.{cond}
 use mathlib.Core.List.{List}
-use Prim.Native.Nat.{ℕ, _+_}
+use Prim.Native.Nat.{ℕ, _+_, _≤_}
 use lib.Dec.{ltb}
-use lib.ListN.{getD, take, drop, set}
+use lib.ListN.{length, getD, take, drop, set}
 use Rattle.entity.specs.declared.record.Record.{Record}
 use Rattle.rules.specs.Record.{recordOf, absent}
 
@@ -65,3 +66,12 @@ spilledBy = changedIn 704 256
 
 abbrev pub unitNoted : ℕ → List ℕ → List ℕ
 unitNoted u rec = changedIn 1088 128 u (unitValueIn rec u) (changedIn 960 128 u (unitRegIn rec u) rec)
+
+-- the table has room for the record
+abbrev pub Long : List ℕ → Type 0
+Long rec = 1216 ≤ length rec
+
+-- the table rec becomes rec′, which is as long, and its record is s
+pub record Becomes (rec rec′ : List ℕ) (s : Record) : Type 0 where
+  pub long : length rec′ ≡ length rec
+  pub is : recordIn rec′ ≡ s

@@ -1,53 +1,20 @@
-use borrow.Author.Needs.{needs}
-use lib.ListN.{length}
+use mathlib.Core.Path.{_≡_, refl}
 use Prim.Native.Nat.{_≤_, _-_}
+use native.Mathlib.Omega.{arith}
+use lib.ListN.{drop}
+use lib.ListN.{length}
+use borrow.Author.Needs.{needs}
+use Rattle.record.specs.Flat.{Long}
+use Rattle.laws.specs.Lists.{all}
+use Rattle.record.proofs.Rules.{isWrite, not-written, more-written, all-written-is}
 use Rattle.record.proofs.steps.all_written.Statement.{statement}
 use Rattle.record.proofs.steps.all_written.Tie as tie
-use Rattle.record.proofs.steps.all_written.Reads as reads
-use Rattle.record.proofs.steps.all_written.Lts as lts
-use Rattle.record.proofs.flat.unit_value.Reads as unit-value-reads
 
 abbrev Inv-loop : tie.InvT-loop
-Inv-loop rec us v k₀ k = k ≤ length us
+Inv-loop rec us v k₀ k = (k ≤ length us) × (Long rec → all (isWrite rec v) (drop k us) ≡ all (isWrite rec v) us)
 
 abbrev μ-loop : tie.MeasureT-loop
 μ-loop rec us v k₀ k = length us - k
-
--- src/steps.rt:166:5
-loop-holds : tie.Need-loop-holds Inv-loop μ-loop
-loop-holds c = search needs
-
--- src/steps.rt:167:36
-mul-t5 : tie.Need-mul-t5 Inv-loop μ-loop
-mul-t5 c = search needs
-
--- src/steps.rt:167:36
-shared-slice-read-t9 : tie.Need-shared-slice-read-t9 Inv-loop μ-loop
-shared-slice-read-t9 c = search needs
-
--- src/steps.rt:167:12
-unit-value-requires : tie.Need-unit-value-requires Inv-loop μ-loop
-unit-value-requires c κs = search needs
-
--- src/steps.rt:168:13
-returns : tie.Need-returns Inv-loop μ-loop
-returns c = search needs
-
--- src/steps.rt:170:9
-add-k : tie.Need-add-k Inv-loop μ-loop
-add-k c = search needs
-
--- src/steps.rt:166:5
-loop-less : tie.Need-loop-less Inv-loop μ-loop
-loop-less c = search needs
-
--- src/steps.rt:166:5
-loop-again : tie.Need-loop-again Inv-loop μ-loop
-loop-again c = search needs
-
--- src/steps.rt:164:1
-returns-2 : tie.Need-returns-2 Inv-loop μ-loop
-returns-2 c = search needs
 
 pub all-written-spec : {M : Type 1} → statement M
 all-written-spec =
@@ -55,12 +22,18 @@ all-written-spec =
     (tie.spec
     Inv-loop
     μ-loop
-    loop-holds
-    mul-t5
-    shared-slice-read-t9
-    unit-value-requires
-    returns
-    add-k
-    loop-less
-    loop-again
-    returns-2)
+    (λ c. (omega arith, λ _. refl))
+    (λ c. search needs)
+    (λ c. search needs)
+    (λ c κs. search needs)
+    (λ c. let a = c .before .before .before .before .before .before .args in
+    let g = c .before .before .before .before .loop in
+    not-written (a .rec .now) (a .us .now) (a .v) (g .k) (c .before .unit-value .ensures) (c .if1 .taken) (omega arith) (g .inv .1))
+    (λ c. search needs)
+    (λ c. search needs)
+    (λ c. let a = c .before .before .before .before .before .before .args in
+    let g = c .before .before .before .before .loop in
+    (omega arith, more-written (a .rec .now) (a .us .now) (a .v) (g .k) (c .before .unit-value .ensures) (c .if1 .left) (omega arith) (g .inv .1)))
+    (λ c. let a = c .before .before .before .args in
+    let g = c .before .loop in
+    all-written-is (a .rec .now) (a .us .now) (a .v) (g .k) (omega arith) (g .inv .1)))

@@ -1,49 +1,18 @@
-use borrow.Author.Needs.{needs}
-use lib.ListN.{length}
 use Prim.Native.Nat.{_≤_, _-_}
+use native.Mathlib.Omega.{arith}
+use lib.ListN.{length}
+use borrow.Author.Needs.{needs}
+use Rattle.record.specs.Flat.{Long}
+use Rattle.rules.specs.Record.{forgetUnit}
+use Rattle.record.proofs.Changes.{Going, going-none, going-next, going-end}
 use Rattle.record.proofs.steps.forget_units.Statement.{statement}
 use Rattle.record.proofs.steps.forget_units.Tie as tie
-use Rattle.record.proofs.steps.forget_units.Reads as reads
-use Rattle.record.proofs.steps.forget_units.Lts as lts
-use Rattle.record.proofs.steps.forget_unit.Reads as forget-unit-reads
 
 abbrev Inv-loop : tie.InvT-loop
-Inv-loop rec₀ us k₀ rec k = k ≤ length us
+Inv-loop rec₀ us k₀ rec k = (k ≤ length us) × (Long rec₀ → Going forgetUnit us rec₀ rec k)
 
 abbrev μ-loop : tie.MeasureT-loop
 μ-loop rec₀ us k₀ rec k = length us - k
-
--- src/steps.rt:63:5
-loop-holds : tie.Need-loop-holds Inv-loop μ-loop
-loop-holds c = search needs
-
--- src/steps.rt:64:34
-mul-t4 : tie.Need-mul-t4 Inv-loop μ-loop
-mul-t4 c = search needs
-
--- src/steps.rt:64:34
-shared-slice-read-t9 : tie.Need-shared-slice-read-t9 Inv-loop μ-loop
-shared-slice-read-t9 c = search needs
-
--- src/steps.rt:64:9
-forget-unit-requires : tie.Need-forget-unit-requires Inv-loop μ-loop
-forget-unit-requires c κs = search needs
-
--- src/steps.rt:65:9
-add-k : tie.Need-add-k Inv-loop μ-loop
-add-k c = search needs
-
--- src/steps.rt:63:5
-loop-less : tie.Need-loop-less Inv-loop μ-loop
-loop-less c = search needs
-
--- src/steps.rt:63:5
-loop-again : tie.Need-loop-again Inv-loop μ-loop
-loop-again c = search needs
-
--- src/steps.rt:61:1
-returns : tie.Need-returns Inv-loop μ-loop
-returns c = search needs
 
 pub forget-units-spec : {M : Type 1} → statement M
 forget-units-spec =
@@ -51,11 +20,13 @@ forget-units-spec =
     (tie.spec
     Inv-loop
     μ-loop
-    loop-holds
-    mul-t4
-    shared-slice-read-t9
-    forget-unit-requires
-    add-k
-    loop-less
-    loop-again
-    returns)
+    (λ c. let a = c .before .args in (omega arith, λ _. going-none forgetUnit (a .us .now) (a .rec .now)))
+    (λ c. search needs)
+    (λ c. search needs)
+    (λ c κs. search needs)
+    (λ c. search needs)
+    (λ c. search needs)
+    (λ c. let a = c .before .before .before .before .before .before .args in
+    let g = c .before .before .before .before .loop in
+    (omega arith, going-next forgetUnit (a .us .now) (g .k) (g .inv .1) (c .forget-unit .ensures) (omega arith)))
+    (λ c. let a = c .before .before .before .args in let g = c .before .loop in going-end forgetUnit (a .us .now) (g .k) (g .inv .1) (omega arith)))

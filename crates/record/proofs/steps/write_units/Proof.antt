@@ -1,49 +1,19 @@
-use borrow.Author.Needs.{needs}
-use lib.ListN.{length}
 use Prim.Native.Nat.{_≤_, _-_}
+use native.Mathlib.Omega.{arith}
+use lib.ListN.{getD}
+use lib.ListN.{length}
+use borrow.Author.Needs.{needs}
+use Rattle.record.specs.Flat.{Long}
+use Rattle.rules.specs.Record.{writeUnit}
+use Rattle.record.proofs.Changes.{Going, going-none, going-next, going-end, writing}
 use Rattle.record.proofs.steps.write_units.Statement.{statement}
 use Rattle.record.proofs.steps.write_units.Tie as tie
-use Rattle.record.proofs.steps.write_units.Reads as reads
-use Rattle.record.proofs.steps.write_units.Lts as lts
-use Rattle.record.proofs.flat.write_unit.Reads as write-unit-reads
 
 abbrev Inv-loop : tie.InvT-loop
-Inv-loop rec₀ us r v k₀ rec k = k ≤ length us
+Inv-loop rec₀ us r v k₀ rec k = (k ≤ length us) × (Long rec₀ → Going (writeUnit (r .0) (v .0)) us rec₀ rec k)
 
 abbrev μ-loop : tie.MeasureT-loop
 μ-loop rec₀ us r v k₀ rec k = length us - k
-
--- src/steps.rt:71:5
-loop-holds : tie.Need-loop-holds Inv-loop μ-loop
-loop-holds c = search needs
-
--- src/steps.rt:72:33
-mul-t6 : tie.Need-mul-t6 Inv-loop μ-loop
-mul-t6 c = search needs
-
--- src/steps.rt:72:33
-shared-slice-read-t11 : tie.Need-shared-slice-read-t11 Inv-loop μ-loop
-shared-slice-read-t11 c = search needs
-
--- src/steps.rt:72:9
-write-unit-requires : tie.Need-write-unit-requires Inv-loop μ-loop
-write-unit-requires c κs = search needs
-
--- src/steps.rt:73:9
-add-k : tie.Need-add-k Inv-loop μ-loop
-add-k c = search needs
-
--- src/steps.rt:71:5
-loop-less : tie.Need-loop-less Inv-loop μ-loop
-loop-less c = search needs
-
--- src/steps.rt:71:5
-loop-again : tie.Need-loop-again Inv-loop μ-loop
-loop-again c = search needs
-
--- src/steps.rt:69:1
-returns : tie.Need-returns Inv-loop μ-loop
-returns c = search needs
 
 pub write-units-spec : {M : Type 1} → statement M
 write-units-spec =
@@ -51,11 +21,18 @@ write-units-spec =
     (tie.spec
     Inv-loop
     μ-loop
-    loop-holds
-    mul-t6
-    shared-slice-read-t11
-    write-unit-requires
-    add-k
-    loop-less
-    loop-again
-    returns)
+    (λ c. let a = c .before .args in (omega arith, λ _. going-none (writeUnit (a .r .0) (a .v .0)) (a .us .now) (a .rec .now)))
+    (λ c. search needs)
+    (λ c. search needs)
+    (λ c κs. search needs)
+    (λ c. search needs)
+    (λ c. search needs)
+    (λ c. let a = c .before .before .before .before .before .before .args in
+    let g = c .before .before .before .before .loop in (
+      omega arith,
+      going-next (writeUnit (a .r .0) (a .v .0)) (a .us .now) (g .k) (g .inv .1) (writing (getD (a .us .now) (g .k) 0) (a .r .0)
+          (a .v .0) (c .write-unit .ensures)) (omega arith),
+    ))
+    (λ c. let a = c .before .before .before .args in
+    let g = c .before .loop in
+    going-end (writeUnit (a .r .0) (a .v .0)) (a .us .now) (g .k) (g .inv .1) (omega arith)))
