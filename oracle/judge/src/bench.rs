@@ -24,7 +24,9 @@ const WRITE: usize = 6;
 const OPTIMISE_AGAIN: usize = 7;
 const SWEEP_AGAIN: usize = 8;
 const LIBRARY: usize = 9;
-const STAGES: usize = 10;
+const LIBRARY_OFF: usize = 10;
+const LIBRARY_UNSWEPT: usize = 11;
+const STAGES: usize = 12;
 
 const NAMES: [&str; STAGES] = [
     "read (oracle)",
@@ -37,6 +39,8 @@ const NAMES: [&str; STAGES] = [
     "optimise (Rust, used buffers)",
     "sweep (Rust, used buffers)",
     "drifthurdle_clean, whole call",
+    "drifthurdle_clean at level 0, flag 0",
+    "drifthurdle_clean at the level, flag 0",
 ];
 
 /// ns by stage: of the present round, of the best one, and of all.
@@ -75,6 +79,15 @@ impl Times {
         println!("{:44} {:>10} {:>10}", "ns per sheet", "best", "mean");
         for k in 0..if linked { STAGES } else { LIBRARY } {
             line(NAMES[k], self.best[k], self.total[k]);
+        }
+        let less = |name: &str, a: usize, b: usize| {
+            let of = |t: &[u128; STAGES]| t[a].saturating_sub(t[b]);
+            line(name, of(&self.best), of(&self.total));
+        };
+        if linked {
+            less("optimise (library, by difference)", LIBRARY_UNSWEPT, LIBRARY_OFF);
+            less("sweep (library, by difference)", LIBRARY, LIBRARY_UNSWEPT);
+            less("the library's two passes (by difference)", LIBRARY, LIBRARY_OFF);
         }
         sum("the Rust's two passes (fresh)", &[NEW, OPTIMISE, SWEEP]);
         sum("whole call with the Rust", &[READ, CHECK, BUILD, NEW, OPTIMISE, SWEEP, WRITE]);
@@ -121,14 +134,17 @@ fn chunk(cases: &[Case], t: &mut Times, used: &mut Used, clean: Option<Clean>) {
         }
     });
     if let Some(clean) = clean {
-        t.of(LIBRARY, || cases.iter().for_each(|c| library(clean, c, &mut used.out)));
+        let out = &mut used.out;
+        t.of(LIBRARY, || cases.iter().for_each(|c| library(clean, c, c.level, c.sweep, out)));
+        t.of(LIBRARY_OFF, || cases.iter().for_each(|c| library(clean, c, 0, 0, out)));
+        t.of(LIBRARY_UNSWEPT, || cases.iter().for_each(|c| library(clean, c, c.level, 0, out)));
     }
 }
 
-fn library(clean: Clean, c: &Case, out: &mut [u8]) {
+fn library(clean: Clean, c: &Case, level: u32, sweep: u32, out: &mut [u8]) {
     let (sheet, to) = (black_box(&c.sheet), out.as_mut_ptr());
     // SAFETY: both pointers are good for the lengths given with them.
-    let n = unsafe { clean(sheet.as_ptr(), sheet.len(), c.level, c.sweep, to, out.len()) };
+    let n = unsafe { clean(sheet.as_ptr(), sheet.len(), level, sweep, to, out.len()) };
     black_box(n);
 }
 
