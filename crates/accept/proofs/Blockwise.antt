@@ -1,37 +1,28 @@
 -- Refusal 4 by block, and the blocks reached as a set. Assumes nothing.
-use mathlib.Core.Path.{_≡_, refl, sym, ap, ap₂, _∙_}
-use mathlib.Core.Bool.{Bool, true, false, not, cond, _&&_, _||_, or-false, or-true, and-false, and-true, and-assoc, or-assoc}
-use mathlib.Core.List.{List, [], _∷_, map, flatMap}
-use mathlib.Core.Option.{Option, none, some, Option·elim}
-use Prim.Native.Nat.{ℕ, zero, suc, _+_, _-_, _≤_, _<_}
-use native.Mathlib.Nat.{add-zero, sub-zero}
-use native.Mathlib.Numerals.{add-one}
+use mathlib.Core.Path.{_≡_, refl, sym, ap, _∙_}
+use mathlib.Core.Bool.{Bool, true, false, not, _&&_, and-false}
+use mathlib.Core.List.{List, [], _∷_}
+use mathlib.Core.Option.{none, Option·elim}
+use Prim.Native.Nat.{ℕ, _-_, _≤_, _<_}
+use native.Mathlib.Nat.{sub-zero}
 use native.Mathlib.Omega.{arith}
-use lib.Dec.{T, eqb, leb, ltb}
-use lib.ListN.{length, getD, take, drop}
-use borrow.Author.Tests.{lt-ltb, le-ltb, eq-eqb, ne-eqb, ltb-true, ltb-false, leb-true, leb-false, lt-leb, le-leb, eqb-true, eqb-false, not-true, not-false}
-use Rattle.laws.specs.Lists.{all, any, keep, isIn, from}
-use Rattle.laws.proofs.Cases.{by-bool, by-lt, by-eq}
-use Rattle.entity.specs.Limits.{blockLimit}
-use Rattle.bits.specs.Sets.{has, setOf, setLimit}
-use Rattle.bits.specs.declared.sets.NumberSet.{NumberSet}
-use Rattle.bits.proofs.Members.{has-setOf, setOf-same}
+use lib.Dec.{eqb, leb, ltb}
+use lib.ListN.{length, getD}
+use borrow.Author.Tests.{lt-ltb, eq-eqb, ne-eqb, lt-leb, le-leb, not-true, not-false}
+use Rattle.laws.specs.Lists.{all, any, isIn, from}
 use Rattle.rules.specs.Sheet.{Sheet, BlockRow, blockCount, blockRow, succsOf, predsOf}
-use Rattle.rules.specs.Accept.{isEntry, blocksFrom0, someEntry, noneEmpty, listsAgree, entriesFirst, noCriticalEdge, solePredsSmaller, idomsSmaller, further, reachedIn, eachIn, allReached, blocksHold, Reached, entry, next}
+use Rattle.rules.specs.Accept.{isEntry, blocksFrom0, someEntry, noneEmpty, listsAgree, entriesFirst, noCriticalEdge, solePredsSmaller, idomsSmaller, allReached, blocksHold, entry}
 use Rattle.table.specs.Rows.{countIn}
 use Rattle.table.specs.Sheet.{sheetIn}
-use Rattle.table.specs.Index.{Ready}
-use Rattle.table.proofs.Loops.{and-left, and-right, and-both, never, all-at, all-each, any-hit, all-same, any-same, all-numbers, any-numbers}
-use Rattle.table.proofs.Sheets.{from-long, long-of, blocks-are}
-use Rattle.table.proofs.Beginnings.{from-at}
-use Rattle.table.proofs.Lookups.{few-blocks}
+use Rattle.table.proofs.Loops.{all-numbers, any-numbers}
+use Rattle.table.proofs.Sheets.{long-of, blocks-are}
 use Rattle.entity.specs.declared.sets.FoundBlock.{FoundBlock}
 use Rattle.entity.specs.declared.sets.FoundBlock.the-variants.{At, Nothing}
 use Rattle.table.specs.View.{blockFound}
 use Rattle.accept.specs.Graph.{chosen}
 use Rattle.accept.specs.declared.graph.Direction.the-variants.{Successors, Predecessors}
 use Rattle.accept.proofs.Dominance.{found, lost}
-use Rattle.accept.specs.Blocks.{solePreds, listsAgreeAt, entryFirstAt, noCriticalEdgeAt, solePredSmallerAt, idomSmallerAt, blockHolds, reachSet}
+use Rattle.accept.specs.Blocks.{solePreds, listsAgreeAt, entryFirstAt, noCriticalEdgeAt, solePredSmallerAt, idomSmallerAt, blockHolds}
 
 pub all-and : {A : Type 0} (f g : A → Bool) (l : List A) → all (λ x. f x && g x) l ≡ (all f l && all g l)
 unfolding all

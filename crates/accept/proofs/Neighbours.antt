@@ -1,22 +1,21 @@
 -- A block's list is a part of the successor or of the predecessor list. Assumes nothing.
-use mathlib.Core.Path.{_≡_, refl, sym, ap, _∙_}
-use mathlib.Core.Bool.{Bool, true, false, cond}
+use mathlib.Core.Path.{_≡_, sym, ap, _∙_}
+use mathlib.Core.Bool.{cond}
 use mathlib.Core.List.{List, [], _∷_}
 use Prim.Native.Nat.{ℕ, zero, suc, _+_, _-_, _%_, _≤_, _<_}
 use native.Mathlib.Nat.{add-assoc, mod-eq-of-lt}
 use native.Mathlib.Omega.{arith}
 use lib.Dec.{ltb}
 use lib.ListN.{length, getD, take, drop}
-use lib.Seq.{take-take, drop-drop, take-nil, drop-nil}
+use lib.Seq.{take-take, drop-drop, take-nil}
 use borrow.Author.Tests.{lt-ltb, le-ltb}
 use Rattle.laws.proofs.Cases.{by-lt}
 use Rattle.entity.specs.Limits.{blockLimit}
-use Rattle.rules.specs.Rows.{first}
 use Rattle.rules.specs.Sheet.{succsOf, predsOf}
-use Rattle.table.specs.Rows.{firstIn, countIn, rowIn, kindRow}
-use Rattle.table.specs.Table.{Holds, Indexed}
-use Rattle.table.specs.Sheet.{rowsAt, sheetIn}
-use Rattle.table.specs.Index.{rangeIn, Part, Ready}
+use Rattle.table.specs.Rows.{firstIn, countIn, kindRow}
+use Rattle.table.specs.Table.{Indexed}
+use Rattle.table.specs.Sheet.{sheetIn}
+use Rattle.table.specs.Index.{rangeIn, Ready}
 use Rattle.table.specs.declared.index.Range.{Range}
 use Rattle.table.proofs.Holding.{start-later, start-within}
 use Rattle.table.proofs.Kindred.{begin-within}

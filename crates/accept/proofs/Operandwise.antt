@@ -1,14 +1,12 @@
 -- Refusal 5 by operand. Assumes nothing.
 use mathlib.Core.Path.{_≡_, refl, sym, ap, _∙_}
-use mathlib.Core.Bool.{Bool, true, false, not, cond, _&&_, _||_, and-false}
-use mathlib.Core.List.{List, [], _∷_}
+use mathlib.Core.Bool.{Bool, true, false, not, _||_, and-false}
+use mathlib.Core.List.{List, []}
 use mathlib.Core.Option.{Option, none, some, bind, Option·elim}
-use Prim.Native.Nat.{ℕ, zero, suc, _+_, _-_, _≤_, _<_}
+use Prim.Native.Nat.{ℕ, _+_, _-_, _≤_, _<_}
 use native.Mathlib.Nat.{sub-zero}
-use native.Mathlib.Numerals.{add-one}
 use native.Mathlib.Omega.{arith}
-use lib.Dec.{eqb, ltb}
-use lib.Text.{eqt}
+use lib.Dec.{eqb}
 use lib.ListN.{length, getD, take, drop, length-drop}
 use lib.Seq.{length-take-le, getD-take, getD-drop}
 use borrow.Author.Tests.{lt-ltb, le-ltb, not-true, not-false}
@@ -21,12 +19,11 @@ use Rattle.entity.specs.declared.forms.Place.the-variants.{Reg, Slot}
 use Rattle.entity.specs.declared.forms.Constraint.{Constraint}
 use Rattle.entity.specs.declared.forms.Constraint.the-variants.{Class, Fixed, Reuse}
 use Rattle.entity.specs.declared.forms.OperandKind.{OperandKind}
-use Rattle.entity.specs.declared.forms.OperandKind.the-variants.{Def, Use, EarlyDef, DefGroup, UseGroup, EarlyDefGroup, NonAllocatable}
+use Rattle.entity.specs.declared.forms.OperandKind.the-variants.{DefGroup, UseGroup, EarlyDefGroup, NonAllocatable}
 use Rattle.entity.specs.declared.numbers.PhysReg.{PhysReg}
 use Rattle.entity.specs.declared.numbers.SpillSlot.{SpillSlot}
 use Rattle.entity.specs.declared.numbers.RegClass.{RegClass}
 use Rattle.entity.specs.declared.numbers.OperandIndex.{OperandIndex}
-use Rattle.entity.specs.declared.numbers.Value.{Value}
 use Rattle.entity.specs.declared.numbers.ValueGroup.{ValueGroup}
 use Rattle.rules.specs.Sheet.{Sheet, OpRow, GroupRow, is, kindWord, subjectOf, valuesOf, classRow}
 use Rattle.rules.specs.Accept.{samePlace, operandsAt, operand, inClass, classOf, classFor, reuseHolds, constraintHolds, fixedHolds, headedBy, beginsGroup, groupHolds, operandsHold}

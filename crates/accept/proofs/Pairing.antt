@@ -1,6 +1,6 @@
 -- Refusal 6: edits in order, the edits of a block, pairs, home slots and shared units. Assumes nothing.
 use mathlib.Core.Path.{_≡_, refl, sym, ap, _∙_}
-use mathlib.Core.Bool.{Bool, true, false, not, cond, _&&_, _||_, and-false, and-true, or-false, or-true, or-assoc}
+use mathlib.Core.Bool.{Bool, true, false, not, _&&_, _||_, and-false, or-false}
 use mathlib.Core.List.{List, [], _∷_, map}
 use mathlib.Core.Option.{Option, none, some, Option·elim}
 use Prim.Native.Nat.{ℕ, zero, suc, _+_, _-_, _≤_, _<_}
@@ -8,9 +8,9 @@ use native.Mathlib.Nat.{sub-zero, le-trans}
 use native.Mathlib.Numerals.{add-one}
 use native.Mathlib.Omega.{arith}
 use lib.Dec.{eqb, leb, ltb}
-use lib.ListN.{length, getD, take, drop, length-drop, drop-of-length-le, List·getD-eq-default}
+use lib.ListN.{length, getD, take, drop, drop-of-length-le, List·getD-eq-default}
 use lib.Seq.{drop-cons, take-nil}
-use borrow.Author.Tests.{lt-ltb, le-ltb, le-leb, lt-leb, leb-true, leb-false, eq-eqb, ne-eqb, ltb-true, eqb-true, not-true, not-false}
+use borrow.Author.Tests.{lt-ltb, le-ltb, le-leb, lt-leb, leb-true, eq-eqb, ne-eqb, ltb-true, not-true, not-false}
 use Rattle.laws.specs.Lists.{all, any, keep, isIn, from}
 use Rattle.laws.proofs.Cases.{by-bool, by-lt, by-eq}
 use Rattle.entity.specs.Limits.{blockLimit, instLimit, slotLimit, unitLimit}
@@ -29,13 +29,12 @@ use Rattle.rules.specs.Accept.{withinLimits, unitsWithin, editNames, slotExists
 use Rattle.table.specs.Rows.{countIn}
 use Rattle.table.specs.Sheet.{rowsAt, sheetIn}
 use Rattle.table.specs.Index.{before, rangeIn, NeverFalls, Ready}
-use Rattle.table.specs.View.{editRow}
+use Rattle.table.specs.View.{editRow, slotFound}
 use Rattle.table.specs.Edits.{editAtRow}
 use Rattle.table.specs.declared.index.Range.{Range}
 use Rattle.table.proofs.Loops.{and-left, and-right, and-both, never, all-at, all-each, any-hit, all-numbers, any-numbers, keep-map, keep-same}
-use Rattle.table.proofs.Sheets.{long-of, edits-are, values-are, regs-are, editRowOf, rows-long, from-long}
+use Rattle.table.proofs.Sheets.{long-of, edits-are, values-are, regs-are, editRowOf, from-long}
 use Rattle.table.proofs.Beginnings.{from-at}
-use Rattle.table.specs.View.{slotFound}
 use Rattle.table.specs.declared.view.FoundSlot.{FoundSlot}
 use Rattle.table.specs.declared.view.FoundSlot.the-variants as FoundSlot
 use Rattle.names.proofs.Sets.{below, all-more, any-setOf}
@@ -47,7 +46,7 @@ use Rattle.accept.specs.Pairs.{pairedBy, afterEdit, editsOf, isHomeOf, h
 use Rattle.accept.specs.declared.edits.Open.{Open}
 use Rattle.accept.specs.declared.edits.Open.the-variants.{None, Spill, Broken}
 use Rattle.accept.proofs.Blockwise.{all-and}
-use Rattle.accept.proofs.Reaching.{same-bool, any-more, any-at, in-any, from-hit, from-some, in-hit, or-cases, or-left, or-right}
+use Rattle.accept.proofs.Reaching.{same-bool, any-more, any-at, from-hit, from-some, in-hit, or-cases, or-left, or-right}
 
 -- ---- in order
 

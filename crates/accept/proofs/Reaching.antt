@@ -1,23 +1,23 @@
 -- The blocks that an entry reaches: as a set, and by steps. Assumes nothing.
 use mathlib.Core.Path.{_≡_, refl, sym, ap, _∙_}
-use mathlib.Core.Bool.{Bool, true, false, not, cond, _&&_, _||_, or-false, or-true, and-false, and-true, or-assoc}
+use mathlib.Core.Bool.{Bool, true, false, _&&_, _||_, or-false, or-true, and-false, or-assoc}
 use mathlib.Core.List.{List, [], _∷_, _++_, flatMap}
 use mathlib.Core.Logic.{_⊎_, inl, inr, ⊎-elim, _↔_}
 use Prim.Native.Nat.{ℕ, zero, suc, _+_, _-_, _≤_, _<_}
 use native.Mathlib.Nat.{zero-add}
 use native.Mathlib.Numerals.{add-one}
 use native.Mathlib.Omega.{arith}
-use lib.Dec.{T, eqb, leb, ltb}
+use lib.Dec.{T, eqb, ltb}
 use lib.ListN.{length, getD}
-use borrow.Author.Tests.{lt-ltb, le-ltb, eq-eqb, ne-eqb, ltb-true, eqb-true, not-true, not-false}
+use borrow.Author.Tests.{lt-ltb, le-ltb, eq-eqb, ne-eqb, ltb-true, eqb-true}
 use Rattle.laws.specs.Lists.{all, any, keep, isIn, from}
 use Rattle.laws.proofs.Cases.{by-bool, by-lt, by-eq}
 use Rattle.entity.specs.Limits.{blockLimit}
-use Rattle.bits.specs.Sets.{has, setOf, setLimit}
+use Rattle.bits.specs.Sets.{has, setOf}
 use Rattle.bits.specs.declared.sets.NumberSet.{NumberSet}
 use Rattle.bits.proofs.Members.{has-setOf, setOf-same}
 use Rattle.rules.specs.Sheet.{Sheet, ListRow, blockCount, succsOf, listAt}
-use Rattle.rules.specs.Accept.{isEntry, blocksFrom0, blockExists, allNamed, further, reachedIn, eachIn, allReached, Reached, entry, next}
+use Rattle.rules.specs.Accept.{isEntry, blocksFrom0, blockExists, further, reachedIn, eachIn, allReached, Reached, entry, next}
 use Rattle.table.specs.Rows.{countIn}
 use Rattle.table.specs.Sheet.{sheetIn}
 use Rattle.table.specs.Index.{Ready}

@@ -7,12 +7,6 @@ use crate::holders::WORDS;
 use crate::holders::fill;
 use crate::inst::optimise_inst;
 use crate::inst::prepare_inst;
-use crate::states::KNOWN;
-use crate::states::SIZE;
-use crate::states::begin_empty;
-use crate::states::hand_on;
-use crate::states::set_nothing;
-use crate::states::take_in;
 use entity::forms::Level;
 use entity::numbers::Block;
 use entity::numbers::Inst;
@@ -21,13 +15,18 @@ use entity::sets::FoundBlock;
 use record::flat::LENGTH;
 use record::flat::NONE;
 use record::steps::define;
+use states::handed::KNOWN;
+use states::handed::SIZE;
+use states::handed::begin_empty;
+use states::handed::hand_on;
+use states::handed::take_in;
+use states::starts::forward_start;
+use states::starts::global_start;
 use table::index::insts_of;
 use table::index::param_rows;
 use table::rows::Kind;
 use table::rows::count;
-use table::view::is_entry;
 use table::view::param_at;
-use table::view::preds;
 use table::view::succs;
 
 // Each parameter row of block b defines its value at its place.
@@ -94,41 +93,6 @@ fn local(
     }
 }
 
-// Some predecessor is not smaller than block b.
-fn some_later(ps: &[u32], b: Block) -> bool {
-    let mut k: usize = 0;
-    while k < ps.len() {
-        if b.0 <= ps[k] {
-            return true;
-        }
-        k += 1;
-    }
-    false
-}
-
-// Block b is an entry, or has several predecessors, one not smaller than it.
-fn begins_empty(t: &[u32], b: Block) -> bool {
-    if is_entry(t, b) {
-        return true;
-    }
-    let ps = preds(t, b);
-    if ps.len() <= 1 {
-        return false;
-    }
-    some_later(ps, b)
-}
-
-fn forward_start(t: &[u32], states: &mut [u32; SIZE]) {
-    let n = count(t, Kind::BLOCK);
-    let mut b: u32 = 0;
-    while b < n {
-        if begins_empty(t, Block(b)) {
-            set_nothing(states, Block(b));
-        }
-        b += 1;
-    }
-}
-
 fn forward(
     t: &[u32],
     rec: &mut [u32; LENGTH],
@@ -148,21 +112,6 @@ fn forward(
         w = hand_on(t, rec, states, w, Block(b));
         b += 1;
     }
-}
-
-// The entries begin with nothing known, and wait.
-fn global_start(t: &[u32], states: &mut [u32; SIZE]) -> BlockSet {
-    let n = count(t, Kind::BLOCK);
-    let mut w = BlockSet::empty();
-    let mut b: u32 = 0;
-    while b < n {
-        if is_entry(t, Block(b)) {
-            set_nothing(states, Block(b));
-            w = w.insert(Block(b));
-        }
-        b += 1;
-    }
-    w
 }
 
 // Block b is visited; an exit block is not counted or walked.

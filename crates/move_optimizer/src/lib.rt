@@ -4,4 +4,3 @@ mod edit;
 mod holders;
 mod inst;
 pub mod levels;
-mod states;

@@ -21,7 +21,6 @@ abbrev dominates-below : ℕ → In 1 dominates-kinds.ps
 dominates-below t =
     and 1 dominates-kinds.ps (falls 1 dominates-kinds.ps _<_ μ-dominates t) dominates.Pre
 
--- src/graph.rt:118:9
 dominates-returns : (t : ℕ) → dominates-lts.Need-returns (
   idom-reads.Asked,
   idom-reads.Learnt,
@@ -30,7 +29,6 @@ dominates-returns : (t : ℕ) → dominates-lts.Need-returns (
 ) (dominates-at t) dominates.Post
 dominates-returns t c = dominates-own _ _ _ (c .if1 .taken)
 
--- src/graph.rt:120:29
 dominates-idom-requires : (t : ℕ) → dominates-lts.Need-idom-requires (
   idom-reads.Asked,
   idom-reads.Learnt,
@@ -39,7 +37,6 @@ dominates-idom-requires : (t : ℕ) → dominates-lts.Need-idom-requires (
 ) (dominates-at t) dominates.Post
 dominates-idom-requires t c κs = search needs
 
--- src/graph.rt:120:24
 dominates-enum-known-i : (t : ℕ) → dominates-lts.Need-enum-known-i (
   idom-reads.Asked,
   idom-reads.Learnt,
@@ -48,7 +45,6 @@ dominates-enum-known-i : (t : ℕ) → dominates-lts.Need-enum-known-i (
 ) (dominates-at t) dominates.Post
 dominates-enum-known-i t c = search needs
 
--- src/graph.rt:121:9
 dominates-enum-told : (t : ℕ) → dominates-lts.Need-enum-told (
   idom-reads.Asked,
   idom-reads.Learnt,
@@ -57,7 +53,6 @@ dominates-enum-told : (t : ℕ) → dominates-lts.Need-enum-told (
 ) (dominates-at t) dominates.Post
 dominates-enum-told t c = search needs
 
--- src/graph.rt:121:9
 dominates-returns-2 : (t : ℕ) → dominates-lts.Need-returns-2 (
   idom-reads.Asked,
   idom-reads.Learnt,
@@ -66,7 +61,6 @@ dominates-returns-2 : (t : ℕ) → dominates-lts.Need-returns-2 (
 ) (dominates-at t) dominates.Post
 dominates-returns-2 t c = dominates-top _ _ _ (c .before .before .before .if1 .left) (c .before .before .idom .ensures) (c .enum-told .given .1)
 
--- src/graph.rt:124:9
 dominates-dominates-requires : (t : ℕ) → dominates-lts.Need-dominates-requires (
   idom-reads.Asked,
   idom-reads.Learnt,
@@ -75,7 +69,6 @@ dominates-dominates-requires : (t : ℕ) → dominates-lts.Need-dominates-requir
 ) (dominates-at t) dominates.Post
 dominates-dominates-requires t c κs = search needs
 
--- src/graph.rt:124:9
 dominates-returns-3 : (t : ℕ) → dominates-lts.Need-returns-3 (
   idom-reads.Asked,
   idom-reads.Learnt,
@@ -84,7 +77,6 @@ dominates-returns-3 : (t : ℕ) → dominates-lts.Need-returns-3 (
 ) (dominates-at t) dominates.Post
 dominates-returns-3 t c = c .dominates .ensures ∙ dominates-up _ _ _ (c .before .before .before .before .before .before .before .before .if1 .left) (c .before .before .before .before .before .before .before .idom .ensures) _ (c .before .before .before .before .before .i .given .1) (c .before .if2 .taken)
 
--- src/graph.rt:114:1
 dominates-returns-4 : (t : ℕ) → dominates-lts.Need-returns-4 (
   idom-reads.Asked,
   idom-reads.Learnt,

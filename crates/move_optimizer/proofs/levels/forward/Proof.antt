@@ -9,10 +9,10 @@ use Rattle.move_optimizer.proofs.levels.forward.Tie as tie
 use Rattle.move_optimizer.proofs.levels.forward.Reads as reads
 use Rattle.move_optimizer.proofs.levels.forward.Lts as lts
 use Rattle.entity.proofs.sets.BlockSet.empty.Reads as empty-reads
-use Rattle.move_optimizer.proofs.levels.forward_start.Reads as forward-start-reads
+use Rattle.states.proofs.starts.forward_start.Reads as forward-start-reads
 use Rattle.move_optimizer.proofs.levels.optimise_block.Reads as optimise-block-reads
-use Rattle.move_optimizer.proofs.states.hand_on.Reads as hand-on-reads
-use Rattle.move_optimizer.proofs.states.take_in.Reads as take-in-reads
+use Rattle.states.proofs.handed.hand_on.Reads as hand-on-reads
+use Rattle.states.proofs.handed.take_in.Reads as take-in-reads
 use Rattle.table.proofs.rows.count.Reads as count-reads
 
 abbrev Inv-loop : tie.InvT-loop

@@ -8,7 +8,7 @@ use Rattle.move_optimizer.proofs.levels.global.Reads as reads
 use Rattle.move_optimizer.proofs.levels.global.Lts as lts
 use Rattle.move_optimizer.proofs.levels.optimise_block.Reads as optimise-block-reads
 use Rattle.move_optimizer.proofs.levels.visits.Reads as visits-reads
-use Rattle.move_optimizer.proofs.states.take_in.Reads as take-in-reads
+use Rattle.states.proofs.handed.take_in.Reads as take-in-reads
 use Rattle.table.proofs.rows.count.Reads as count-reads
 
 abbrev Inv-loop : tie.InvT-loop

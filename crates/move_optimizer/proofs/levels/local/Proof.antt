@@ -7,7 +7,7 @@ use Rattle.move_optimizer.proofs.levels.local.Tie as tie
 use Rattle.move_optimizer.proofs.levels.local.Reads as reads
 use Rattle.move_optimizer.proofs.levels.local.Lts as lts
 use Rattle.move_optimizer.proofs.levels.optimise_block.Reads as optimise-block-reads
-use Rattle.move_optimizer.proofs.states.begin_empty.Reads as begin-empty-reads
+use Rattle.states.proofs.handed.begin_empty.Reads as begin-empty-reads
 use Rattle.table.proofs.rows.count.Reads as count-reads
 
 abbrev Inv-loop : tie.InvT-loop

@@ -7,7 +7,7 @@ use Rattle.move_optimizer.proofs.levels.visits.Tie as tie
 use Rattle.move_optimizer.proofs.levels.visits.Reads as reads
 use Rattle.move_optimizer.proofs.levels.visits.Lts as lts
 use Rattle.entity.proofs.sets.BlockSet.lowest.Reads as lowest-reads
-use Rattle.move_optimizer.proofs.levels.global_start.Reads as global-start-reads
+use Rattle.states.proofs.starts.global_start.Reads as global-start-reads
 use Rattle.move_optimizer.proofs.levels.visit.Reads as visit-reads
 
 abbrev Inv-loop : tie.InvT-loop
