@@ -105,6 +105,24 @@ readings =
     ∷ example "slots,2/value,0,0/block,0,1,-,1/edit,0,remat,s1,-,0/edit,0,remat,s1,-,0/" 1 0 65536 (writes "edit,0,remat,s1,-,0/edit,0,remat,s1,-,0/count,0,0,0,0,0,0,0,0,0/")  -- F.34
     ∷ example "slots,0/reg,0,0,0/reg,1,0,1/class,0,0,0/group,0,0,0,1/value,0,-/value,1,-/vgroup,0,0,1/block,0,2,-,1/op,0,defg,0,c0,r0/edit,1,remat,r1,-,1/" 1 0 65536 (writes "edit,1,none,-,-,-/count,0,0,0,1,0,0,0,0,0/")  -- F.35
     ∷ example "slots,0/reg,0,0,0/value,0,-/block,0,1,-,1/block,1,1,0,0/block,2,1,1,0/succ,0,1/succ,1,2/succ,2,1/pred,1,0,2/pred,2,1/op,0,def,0,f0,r0/clob,2,0/edit,1,remat,r0,-,0/" 3 0 65536 (writes "edit,1,remat,r0,-,0/count,4,0,0,0,0,0,0,0,0/")  -- F.36
+    ∷ example "slots,1/reg,0,0,0/reg,1,0,1/value,0,-/block,0,1,-,1/edit,0,remat,r0,-,0/edit,0,remat,r1,-,0/edit,0,move,s0,s0,0/" 1 0 65536 (writes "edit,0,remat,r0,-,0/edit,0,remat,r1,-,0/edit,0,move,s0,r0,0/count,0,0,0,0,0,1,0,0,0/")  -- F.37
+    ∷ example "slots,1/reg,0,0,0/class,0,1/value,0,0/block,0,2,-,1/op,0,def,0,f0,r0/op,1,use,0,c0,s0/" 1 0 65536 (writes "count,0,0,0,0,0,0,0,0,0/")  -- F.38
+    ∷ example "slots,0/reg,0,0,0/value,0,-/block,0,2,-,1/op,0,early,0,f0,r0/clob,0,0/edit,1,remat,r0,-,0/" 1 0 65536 (writes "edit,1,none,-,-,-/count,0,0,0,1,0,0,0,0,0/")  -- F.39
+    ∷ example "slots,0/reg,0,0,0/reg,1,0,1/class,0,0,0/group,0,0,0,1/value,0,-/value,1,-/vgroup,0,0,1/block,0,2,-,1/op,0,defg,0,c0,r0/clob,0,1/edit,1,remat,r1,-,1/" 1 0 65536 (writes "edit,1,none,-,-,-/count,0,0,0,1,0,0,0,0,0/")  -- F.40
+    ∷ example "slots,0/reg,0,0,0/reg,1,0,1/reg,2,0,2/class,0,0,0/class,1,0,0/group,0,0,0,2/group,1,1,0,1/value,0,-/value,1,-/vgroup,0,0,1/block,0,2,-,1/op,0,useg,0,c1,r0/op,0,defg,0,u0,r0/edit,1,remat,r1,-,1/" 1 0 65536 (writes "edit,1,none,-,-,-/count,0,0,0,1,0,0,0,0,0/")  -- F.41
+    ∷ example "slots,0/reg,0,0,0/reg,1,0,1/value,0,-/block,0,1,-,1/block,1,1,0,0/block,2,1,0,0/block,3,1,0,0/block,4,1,3,0/succ,0,1,2/succ,1,3/succ,2,3/succ,3,4/pred,1,0/pred,2,0/pred,3,1,2/pred,4,3/op,0,def,0,f0,r0/edit,2,remat,r1,-,0/" 3 0 65536 (writes "edit,2,remat,r1,-,0/count,4,0,0,0,0,0,0,0,0/")  -- F.42
+    ∷ example "slots,0/reg,0,0,0/value,0,-/block,0,1,-,1/block,1,1,0,0/succ,0,1/pred,1,0/param,1,0,r0/edit,1,remat,r0,-,0/" 1 0 65536 (writes "edit,1,none,-,-,-/count,0,0,0,1,0,0,0,0,0/")  -- F.43
+    ∷ example "slots,1/reg,0,0,0/class,0,1,0/value,0,0/value,1,-/block,0,3,-,1/op,0,def,0,c0,r0/op,1,use,0,c0,s0/op,2,use,0,c0,s0/op,2,def,1,u0,s0/" 1 0 65536 (writes "fold,1,0,r0/count,0,0,0,0,0,0,1,0,0/")  -- F.44
+    ∷ example "slots,0/reg,0,0,0/reg,1,1,1/class,0,0,0,1/group,0,0,1/value,0,-/vgroup,0,0/block,0,2,-,1/op,0,def,0,f0,r0/op,1,useg,0,c0,r1/" 1 0 65536 (writes "count,0,0,0,0,0,0,0,0,0/")  -- F.45
+    ∷ example "slots,0/reg,0,0,0/reg,1,0,1/class,0,0,0,1/value,0,-/block,0,2,-,1/op,0,def,0,f0,r0/op,1,use,0,c0,r1/" 1 0 65536 (writes "count,0,0,0,0,0,0,0,0,0/")  -- F.46
+    ∷ example "slots,0/reg,0,0,0/class,0,0,0/group,0,0,0/value,0,-/vgroup,0,0/block,0,2,-,1/op,0,earlyg,0,c0,r0/edit,1,remat,r0,-,0/" 1 0 65536 (writes "edit,1,none,-,-,-/count,0,0,0,1,0,0,0,0,0/")  -- F.47
+    ∷ example "slots,0/reg,0,0,0/class,0,0,0/group,0,0,0/value,0,-/vgroup,0,0/block,0,1,-,1/block,1,1,0,0/succ,0,1/pred,1,0/op,0,defg,0,c0,r0/edit,1,remat,r0,-,0/" 3 0 65536 (writes "edit,1,none,-,-,-/count,1,0,0,1,0,0,0,0,0/")  -- F.48
+    ∷ example "slots,0/reg,0,0,0/value,0,-/block,0,1,-,1/block,1,1,0,0/succ,0,1/pred,1,0/param,0,0,r0/edit,1,remat,r0,-,0/" 3 0 65536 (writes "edit,1,none,-,-,-/count,1,0,0,1,0,0,0,0,0/")  -- F.49
+    ∷ example "slots,1/reg,0,0,0/class,0,1/value,0,0/block,0,2,-,1/op,0,def,0,c0,s0/edit,0,remat,r0,-,0/edit,1,remat,r0,-,0/" 1 0 65536 (writes "edit,0,remat,r0,-,0/edit,1,remat,r0,-,0/count,0,0,0,0,0,0,0,0,0/")  -- F.50
+    ∷ example "slots,1/reg,0,0,0/value,0,0/block,0,1,-,1/block,1,1,0,0/block,2,1,0,0/block,3,1,0,0/succ,0,1,2/succ,1,3/succ,2,3/pred,1,0/pred,2,0/pred,3,1,2/op,0,def,0,f0,r0/edit,1,move,s0,r0,0/edit,3,move,s0,r0,0/" 2 0 65536 (writes "edit,1,move,s0,r0,0/edit,3,move,s0,r0,0/count,0,0,0,0,0,0,0,0,0/")  -- F.51
+    ∷ example "slots,1/reg,0,0,0,1/value,0,-/block,0,1,-,1/edit,0,remat,r0,-,0/edit,0,espill,s0,r0,-/edit,0,ereload,r0,s0,-/edit,0,remat,r0,-,0/" 1 0 65536 (writes "edit,0,remat,r0,-,0/edit,0,espill,s0,r0,-/edit,0,ereload,r0,s0,-/edit,0,none,-,-,-/count,0,0,0,1,0,0,0,0,0/")  -- F.52
+    ∷ example "slots,2/reg,0,0,0/class,0,1/value,0,0/block,0,1,-,1/block,1,1,-,0/block,2,1,-,0/succ,0,1/succ,1,2/pred,1,0/pred,2,1/op,0,def,0,c0,s0/op,1,def,0,c0,s1/edit,2,move,s0,r0,0/" 2 0 65536 (writes "edit,2,move,s0,r0,0/count,0,0,0,0,0,0,0,0,0/")  -- F.53
+    ∷ example "slots,0/reg,0,0,0/reg,1,0,1/reg,2,0,2/value,0,-/value,1,-/value,2,-/block,0,1,-,1/block,1,1,0,0/block,2,1,1,0/block,3,1,2,0/block,4,1,3,0/block,5,1,3,0/block,6,1,3,0/succ,0,1/succ,1,2/succ,2,3/succ,3,4,5,6/succ,4,3/succ,5,2/succ,6,1/pred,1,0,6/pred,2,1,5/pred,3,2,4/pred,4,3/pred,5,3/pred,6,3/op,0,def,0,f0,r0/op,0,def,1,f1,r1/op,0,def,2,f2,r2/clob,4,0/clob,5,1/clob,6,2/edit,4,remat,r2,-,2/" 3 0 65536 (writes "edit,4,remat,r2,-,2/count,19,0,0,0,0,0,0,0,0/")  -- F.54
     ∷ example "slots,1/reg,0,0,0/class,0,1,0/value,0,0/block,0,3,-,1/op,0,def,0,c0,r0/op,1,use,0,c0,s0/edit,1,move,s0,r0,0/" 1 1 65536 (writes "fold,1,0,r0/edit,1,none,-,-,-/count,0,0,0,0,0,0,1,1,0/")  -- S.1
     ∷ example "slots,1/reg,0,0,0/class,0,1/value,0,0/value,1,-/block,0,1,-,1/op,0,use,0,c0,s0/op,0,early,1,c0,s0/edit,0,move,s0,r0,0/" 0 1 65536 (writes "edit,0,move,s0,r0,0/count,0,0,0,0,0,0,0,0,0/")  -- S.2
     ∷ example "slots,1/reg,0,0,0/class,0,1/value,0,0/block,0,1,-,1/block,1,1,0,0/succ,0,1/pred,1,0/param,1,0,s0/op,1,use,0,c0,s0/edit,0,move,s0,r0,0/" 0 1 65536 (writes "edit,0,move,s0,r0,0/count,0,0,0,0,0,0,0,0,0/")  -- S.3
