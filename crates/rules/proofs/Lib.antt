@@ -1,3 +1,4 @@
 pub mod Digits
 pub mod Sheets
 pub mod Worked
+pub mod Examples

@@ -14,3 +14,4 @@ pub mod Computing
 pub mod Worked
 pub mod Readings
 pub mod Sheets
+pub mod Examples

@@ -1,5 +1,6 @@
 // The rules of document 01 as definitions: read specs/ in the order of specs/Lib.antt, with document 01 beside it.
 // The functions do nothing: each contract is a theorem that guards the definitions, so that no check passes without it.
+ghost use Rattle.rules.specs.Examples.{Examples};
 ghost use Rattle.rules.specs.Readings.{Readings};
 ghost use Rattle.rules.specs.Sheets.{RowsRead};
 ghost use Rattle.rules.specs.Worked.{WorkedSheet};
@@ -17,4 +18,9 @@ pub fn worked_sheet()
 // The sheets of docs/DECISIONS.md come out as it says.
 pub fn readings()
     ensures { λ _. ⌜ Readings ⌝ }
+{}
+
+// The sweep, "brought on" and the model of a run, on the small cases of specs/Examples.antt.
+pub fn small_cases()
+    ensures { λ _. ⌜ Examples ⌝ }
 {}

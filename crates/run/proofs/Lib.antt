@@ -10,6 +10,5 @@ pub mod Stand
 pub mod Struck
 pub mod Clobber
 pub mod Theorem
-pub mod Examples
 pub mod Within
 pub mod Call

@@ -1,3 +1,2 @@
 pub mod Swept
 pub mod Theorem
-pub mod Examples

@@ -1,6 +1,5 @@
 // The sweep of document 01 is safe and exact: read specs/Theorem.antt for what is proved.
 // The functions do nothing: each contract is a theorem, so that no check passes without it.
-ghost use Rattle.run.specs.Examples.{Examples};
 ghost use Rattle.run.specs.Theorem.{Safe, Exact, Once, SafeRows, ExactRows, OnceRows, StandOnce, WantedComputed, ComputedRows, OthersStay, Agreement, SweepIs, AcceptedWithin, SafeCall, ExactCall, Clobbers};
 
 pub fn sweep_is_safe()
@@ -65,9 +64,4 @@ pub fn call_is_exact()
 
 pub fn clobbered_units()
     ensures { λ _. ⌜ Clobbers ⌝ }
-{}
-
-// The sweep and the model on small cases.
-pub fn small_cases()
-    ensures { λ _. ⌜ Examples ⌝ }
 {}
