@@ -19,9 +19,9 @@ use Rattle.table.proofs.Sheets.{long-of, blocks-are}
 use Rattle.entity.specs.declared.sets.FoundBlock.{FoundBlock}
 use Rattle.entity.specs.declared.sets.FoundBlock.the-variants.{At, Nothing}
 use Rattle.table.specs.View.{blockFound}
-use Rattle.accept.specs.Graph.{chosen}
-use Rattle.accept.specs.declared.graph.Direction.the-variants.{Successors, Predecessors}
-use Rattle.accept.proofs.Dominance.{found, lost}
+use Rattle.graph.specs.Graph.{chosen}
+use Rattle.graph.specs.declared.Direction.the-variants.{Successors, Predecessors}
+use Rattle.graph.proofs.Dominance.{found, lost}
 use Rattle.accept.specs.Blocks.{solePreds, listsAgreeAt, entryFirstAt, noCriticalEdgeAt, solePredSmallerAt, idomSmallerAt, blockHolds}
 
 pub all-and : {A : Type 0} (f g : A → Bool) (l : List A) → all (λ x. f x && g x) l ≡ (all f l && all g l)

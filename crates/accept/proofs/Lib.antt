@@ -1,5 +1,3 @@
-pub mod Neighbours
-pub mod Dominance
 pub mod Blockwise
 pub mod Walks
 pub mod Reaching

@@ -2,18 +2,13 @@
 use mathlib.Core.Path.{_≡_, refl, sym, ap, _∙_}
 use mathlib.Core.Bool.{Bool, true, false, not, _||_, and-false}
 use mathlib.Core.List.{List, []}
-use mathlib.Core.Option.{Option, none, some, bind, Option·elim}
-use Prim.Native.Nat.{ℕ, _+_, _-_, _≤_, _<_}
+use mathlib.Core.Option.{Option·elim}
+use Prim.Native.Nat.{ℕ, _-_}
 use native.Mathlib.Nat.{sub-zero}
-use native.Mathlib.Omega.{arith}
 use lib.Dec.{eqb}
-use lib.ListN.{length, getD, take, drop, length-drop}
-use lib.Seq.{length-take-le, getD-take, getD-drop}
-use borrow.Author.Tests.{lt-ltb, le-ltb, not-true, not-false}
+use lib.ListN.{length}
+use borrow.Author.Tests.{not-true, not-false}
 use Rattle.laws.specs.Lists.{all, any, isIn, from}
-use Rattle.laws.proofs.Cases.{by-lt}
-use Rattle.laws.proofs.Lists.{getD-any}
-use Rattle.entity.specs.Limits.{instLimit}
 use Rattle.entity.specs.declared.forms.Place.{Place}
 use Rattle.entity.specs.declared.forms.Place.the-variants.{Reg, Slot}
 use Rattle.entity.specs.declared.forms.Constraint.{Constraint}
@@ -26,97 +21,24 @@ use Rattle.entity.specs.declared.numbers.RegClass.{RegClass}
 use Rattle.entity.specs.declared.numbers.OperandIndex.{OperandIndex}
 use Rattle.entity.specs.declared.numbers.ValueGroup.{ValueGroup}
 use Rattle.rules.specs.Sheet.{Sheet, OpRow, GroupRow, is, kindWord, subjectOf, valuesOf, classRow}
-use Rattle.rules.specs.Accept.{samePlace, operandsAt, operand, inClass, classOf, classFor, reuseHolds, constraintHolds, fixedHolds, headedBy, beginsGroup, groupHolds, operandsHold}
+use Rattle.rules.specs.Accept.{samePlace, operand, inClass, classOf, classFor, reuseHolds, constraintHolds, fixedHolds, headedBy, beginsGroup, groupHolds, operandsHold}
 use Rattle.table.specs.Rows.{countIn}
-use Rattle.table.specs.Sheet.{rowsAt, sheetIn}
-use Rattle.table.specs.Index.{rangeIn, Ready, before}
+use Rattle.table.specs.Sheet.{sheetIn}
 use Rattle.table.specs.View.{opRow, groupRow, operandOf}
-use Rattle.table.specs.declared.index.Range.{Range}
 use Rattle.table.specs.declared.view.Operand.{Operand}
 use Rattle.table.proofs.Loops.{all-numbers, any-numbers}
-use Rattle.table.proofs.Sheets.{long-of, ops-are, groups-are, rows-long}
-use Rattle.table.proofs.Ranges.{before-within}
-use Rattle.table.proofs.Lookups.{ops-of}
-use Rattle.accept.specs.Operands.{asRow, operandFound, classFound, isClass, isFixed, kindsMatch, reusedClass, reuses, groupIs, groupAt, operandHolds}
-use Rattle.accept.specs.declared.operands.FoundOperand.{FoundOperand}
-use Rattle.accept.specs.declared.operands.FoundOperand.the-variants as FoundOperand
-use Rattle.accept.specs.declared.operands.FoundClass.{FoundClass}
-use Rattle.accept.specs.declared.operands.FoundClass.the-variants as FoundClass
+use Rattle.table.proofs.Sheets.{long-of, ops-are, groups-are}
+use Rattle.operands.specs.Operands.{asRow, operandFound, classFound}
+use Rattle.operands.proofs.Finding.{op-lost, op-found, class-lost, class-found}
+use Rattle.accept.specs.Operands.{isClass, isFixed, kindsMatch, reuses, groupIs, groupAt, operandHolds}
+use Rattle.operands.specs.declared.FoundOperand.{FoundOperand}
+use Rattle.operands.specs.declared.FoundOperand.the-variants as FoundOperand
+use Rattle.operands.specs.declared.FoundClass.{FoundClass}
+use Rattle.operands.specs.declared.FoundClass.the-variants as FoundClass
 
 -- ---- operand k of an instruction
 
-module _ {t : List ℕ} (g : Ready t) (o : OpRow) (k : ℕ) (r : Range) (e : r ≡ rangeIn t 54952 instLimit (o .at)) where
-  abbrev sh : Sheet
-  sh = sheetIn t
-
-  within : r .to ≤ length (sh .ops)
-  unfolding rangeIn
-  within =
-      rw (long-of (ops-are t))
-      (by-lt (o .at) instLimit
-      (λ h.
-      let q : 54952 + o .at + 1 ≡ 54952 + (o .at + 1) = omega arith in
-      let z : r .to ≡ before (o .at + 1) (rowsAt t 10) = ap (λ (x : Range). x .to) e ∙ rw (lt-ltb (o .at) instLimit h, q) (g .built .ops (o .at + 1) (omega arith)) in
-      rw z (omega (arith, before-within (o .at + 1) (rowsAt t 10), rows-long t 10)))
-      (λ h. let z : r .to ≡ 0 = ap (λ (x : Range). x .to) e ∙ rw (le-ltb (o .at) instLimit h) in rw z (omega arith)))
-
-  rows-are : take (r .to - r .from) (drop (r .from) (sh .ops)) ≡ operandsAt sh (o .at)
-  rows-are = rw e (ops-of g (o .at))
-
-  rows-many : length (operandsAt sh (o .at)) ≡ r .to - r .from
-  rows-many = sym (ap length rows-are) ∙ length-take-le (r .to - r .from) (drop (r .from) (sh .ops)) (rw (length-drop (r .from) (sh .ops)) (omega (arith, within)))
-
-  operand-no : r .to - r .from ≤ k → operand sh o k ≡ none
-  unfolding operand
-  operand-no h = rw (rows-many, le-ltb k (r .to - r .from) h)
-
-  operand-yes : k < r .to - r .from → operand sh o k ≡ some (opRow sh (r .from + k))
-  unfolding operand
-  operand-yes h =
-      rw (rows-many, lt-ltb k (r .to - r .from) h)
-      (ap some
-      (ap (λ (l : List OpRow). getD l k o) (sym rows-are) ∙ getD-take (r .to - r .from) (drop (r .from) (sh .ops)) k o h ∙ getD-drop (r .from) (sh .ops) k o
-      ∙ getD-any (sh .ops) (r .from + k) o _ (omega (arith, within))))
-
-module _ (t : List ℕ) (o : Operand) (k : ℕ) (r : Range) (e : r ≡ rangeIn t 54952 instLimit (o .at .0)) where
-  pub operand-none : r .to - r .from ≤ k → Ready t → FoundOperand.Nothing ≡ operandFound (operand (sheetIn t) (asRow o) k)
-  unfolding operandFound asRow
-  operand-none h g = rw (operand-no g (asRow o) k r e h)
-
-  pub operand-some : (u : Operand) → k < r .to - r .from → u ≡ operandOf (opRow (sheetIn t) (r .from + k)) → Ready t → FoundOperand.At u ≡ operandFound (operand (sheetIn t) (asRow o) k)
-  unfolding operandFound asRow
-  operand-some u h q g = rw (operand-yes g (asRow o) k r e h, q)
-
--- what is found, by the code's answers
-op-lost : (x : Option OpRow) → FoundOperand.Nothing ≡ operandFound x → x ≡ none
-unfolding operandFound
-op-lost none q = refl
-op-lost (some y) q = absurd (let z : _≡_ {A = ℕ} 0 1 = cc in omega arith)
-
-op-found : (x : Option OpRow) (u : Operand) → FoundOperand.At u ≡ operandFound x → x ≡ some (asRow u)
-unfolding operandFound asRow
-op-found none u q = absurd (let z : _≡_ {A = ℕ} 0 1 = cc in omega arith)
-op-found (some y) u q = let z : u ≡ operandOf y = cc in ap some (sym (ap asRow z))
-
-class-lost : (x : Option ℕ) → FoundClass.Nothing ≡ classFound x → x ≡ none
-unfolding classFound
-class-lost none q = refl
-class-lost (some y) q = absurd (let z : _≡_ {A = ℕ} 0 1 = cc in omega arith)
-
-class-found : (x : Option ℕ) (c : RegClass) → FoundClass.At c ≡ classFound x → x ≡ some (c .0)
-unfolding classFound
-class-found none c q = absurd (let z : _≡_ {A = ℕ} 0 1 = cc in omega arith)
-class-found (some y) c q = let z : c ≡ record { 0 = y } = cc in ap some (sym (ap (λ (c : RegClass). c .0) z))
-
 module _ {H : Type 0} (sh : Sheet) (o : Operand) (k : ℕ) {f : FoundOperand} (e : H → f ≡ operandFound (operand sh (asRow o) k)) where
-  pub reused-none : f ≡ FoundOperand.Nothing → H → FoundClass.Nothing ≡ classFound (reusedClass sh (asRow o) k)
-  unfolding reusedClass classFound bind
-  reused-none q g = rw (op-lost (operand sh (asRow o) k) (sym q ∙ e g))
-
-  pub reused-some : (u : Operand) (x : FoundClass) → f ≡ FoundOperand.At u → ((sh : Sheet) → x ≡ classFound (classOf sh (u .constraint))) → H → x ≡ classFound (reusedClass sh (asRow o) k)
-  unfolding reusedClass asRow bind
-  reused-some u x q p g = rw (op-found (operand sh (asRow o) k) u (sym q ∙ e g)) (p sh)
-
   pub reuses-none : f ≡ FoundOperand.Nothing → H → false ≡ reuses sh (asRow o) k
   unfolding reuses Option·elim
   reuses-none q g = rw (op-lost (operand sh (asRow o) k) (sym q ∙ e g))
@@ -149,13 +71,6 @@ module _ (o u : Operand) where
       let a = sym e ∙ not-false x n in
       let b = class-is sh (u .constraint) ∙ sym f ∙ not-false y m in rw (a, b) q
 
-abbrev classBy : Sheet → OpRow → Constraint → Option ℕ
-classBy sh o c = elim c [ Class c ↦ some (c .0) | Fixed r ↦ none | Reuse k ↦ reusedClass sh o (k .0) ]
-
-class-by : (sh : Sheet) (o : OpRow) → classFor sh o ≡ classBy sh o (o .constraint)
-unfolding classFor reusedClass
-class-by sh o = refl
-
 abbrev holdsBy : Sheet → OpRow → Constraint → Bool
 holdsBy sh o c = elim c [ Class c ↦ inClass sh (c .0) (o .place) | Fixed r ↦ samePlace (o .place) (Reg r) | Reuse k ↦ reuses sh o (k .0) ]
 
@@ -164,18 +79,6 @@ unfolding constraintHolds reuses
 holds-by sh o = refl
 
 module _ {H : Type 0} (sh : Sheet) (o : Operand) where
-  pub for-class : (c : RegClass) → o .constraint ≡ Class c → H → FoundClass.At c ≡ classFound (classFor sh (asRow o))
-  unfolding classFor asRow classFound
-  for-class c e g = rw e
-
-  pub for-fixed : (r : PhysReg) → o .constraint ≡ Fixed r → H → FoundClass.Nothing ≡ classFound (classFor sh (asRow o))
-  unfolding classFor asRow classFound
-  for-fixed r e g = rw e
-
-  pub for-reuse : (k : OperandIndex) (x : FoundClass) → o .constraint ≡ Reuse k → (H → x ≡ classFound (reusedClass sh (asRow o) (k .0))) → H → x ≡ classFound (classFor sh (asRow o))
-  unfolding asRow
-  for-reuse k x e p g = p g ∙ sym (ap classFound (class-by sh (asRow o) ∙ ap (classBy sh (asRow o)) e))
-
   pub constraint-class : (c : RegClass) (x : Bool) → o .constraint ≡ Class c → x ≡ inClass sh (c .0) (o .place) → H → x ≡ constraintHolds sh (asRow o)
   unfolding constraintHolds asRow
   constraint-class c x e p g = rw e p
@@ -301,6 +204,3 @@ module _ (sh : Sheet) (c : ℕ) (p : Place) where
   pub in-slot : (s : SpillSlot) (x : Bool) → p ≡ Slot s → x ≡ classRow sh c .slots → x ≡ inClass sh c p
   unfolding inClass
   in-slot s x e q = rw e q
-
-pub operand-back : (f u k : ℕ) → u ≤ f → u - f ≤ k
-operand-back f u k h = omega arith

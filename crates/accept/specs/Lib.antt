@@ -1,4 +1,3 @@
-pub mod Graph
 pub mod Blocks
 pub mod Operands
 pub mod Pairs

@@ -1,34 +1,15 @@
--- Refusal 5 in the steps in which the code goes: an operand as a row, what is found as the code's answers, and what is asked of one operand.
+-- Refusal 5 in the steps in which the code goes: what is asked of one operand.
 use mathlib.Core.Bool.{Bool, true, false, _&&_, _||_}
-use mathlib.Core.Option.{Option, none, some, bind, Option·elim}
+use mathlib.Core.Option.{Option·elim}
 use Prim.Native.Nat.{ℕ}
 use lib.Dec.{eqb}
 use lib.ListN.{length}
-use Rattle.entity.specs.declared.forms.Place.{Place}
 use Rattle.entity.specs.declared.forms.Place.the-variants.{Reg, Slot}
 use Rattle.entity.specs.declared.forms.Constraint.{Constraint}
 use Rattle.entity.specs.declared.forms.Constraint.the-variants.{Class, Fixed, Reuse}
 use Rattle.entity.specs.declared.forms.OperandKind.{OperandKind}
 use Rattle.rules.specs.Sheet.{Sheet, OpRow, GroupRow, is, valuesOf}
-use Rattle.rules.specs.Accept.{operand, reuseHolds, classOf, classFor, headedBy, beginsGroup, constraintHolds, fixedHolds, groupHolds}
-use Rattle.table.specs.declared.view.Operand.{Operand}
-use Rattle.table.specs.View.{operandOf}
-use Rattle.accept.specs.declared.operands.FoundOperand.{FoundOperand}
-use Rattle.accept.specs.declared.operands.FoundOperand.the-variants as FoundOperand
-use Rattle.accept.specs.declared.operands.FoundClass.{FoundClass}
-use Rattle.accept.specs.declared.operands.FoundClass.the-variants as FoundClass
-
--- an operand as the row that says it
-unfoldable pub asRow : Operand → OpRow
-asRow o = record { at = o .at .0; kind = o .kind; constraint = o .constraint; place = o .place }
-
-unfoldable pub operandFound : Option OpRow → FoundOperand
-operandFound none = FoundOperand.Nothing
-operandFound (some o) = FoundOperand.At (operandOf o)
-
-unfoldable pub classFound : Option ℕ → FoundClass
-classFound none = FoundClass.Nothing
-classFound (some c) = FoundClass.At (record { 0 = c })
+use Rattle.rules.specs.Accept.{operand, reuseHolds, classFor, headedBy, beginsGroup, constraintHolds, fixedHolds, groupHolds}
 
 -- a constraint is of a class, or fixed
 unfoldable pub isClass : Constraint → Bool
@@ -49,10 +30,7 @@ unfoldable pub groupIs : ℕ → ℕ → ℕ → GroupRow → Bool
 groupIs c r n g = headedBy c r g && eqb (length (g .regs)) n
 
 module _ (sh : Sheet) where
-  -- operand k of the instruction of o: its class, and whether o may reuse it
-  unfoldable pub reusedClass : OpRow → ℕ → Option ℕ
-  reusedClass o k = bind (operand sh o k) (λ u. classOf sh (u .constraint))
-
+  -- o may reuse operand k of its instruction
   unfoldable pub reuses : OpRow → ℕ → Bool
   reuses o k = Option·elim (operand sh o k) false (reuseHolds sh o)
 

@@ -57,14 +57,14 @@ module _ {A : Type 0} (f g : A → Bool) where
 some-ne-none : {A C : Type 0} {a : A} {o : Option A} → o ≡ some a → o ≡ none → C
 some-ne-none e f = let z : _≡_ {A = ℕ} 0 1 = cc in absurd (omega arith)
 
-record Passed (sh : Sheet) : Type 0 where
-  limits : withinLimits sh ≡ true
-  names : namesHold sh ≡ true
-  blocks : blocksHold sh ≡ true
-  operands : operandsHold sh ≡ true
-  edits : editsHold sh ≡ true
+pub record Passed (sh : Sheet) : Type 0 where
+  pub limits : withinLimits sh ≡ true
+  pub names : namesHold sh ≡ true
+  pub blocks : blocksHold sh ≡ true
+  pub operands : operandsHold sh ≡ true
+  pub edits : editsHold sh ≡ true
 
-passed : (sh : Sheet) → firstRefusal (checks sh) ≡ none → Passed sh
+pub passed : (sh : Sheet) → firstRefusal (checks sh) ≡ none → Passed sh
 unfolding firstRefusal checks
 passed sh e =
     by-bool (withinLimits sh)
@@ -109,6 +109,9 @@ rules sh e =
       idoms = and-right (someEntry sh && noneEmpty sh && listsAgree sh && entriesFirst sh && noCriticalEdge sh && solePredsSmaller sh) (idomsSmaller sh) e₇;
       reached = and-right (someEntry sh && noneEmpty sh && listsAgree sh && entriesFirst sh && noCriticalEdge sh && solePredsSmaller sh && idomsSmaller sh) (allReached sh) e;
     }
+
+pub lists-agree : (sh : Sheet) → firstRefusal (checks sh) ≡ none → listsAgree sh ≡ true
+lists-agree sh e = rules sh (passed sh e .blocks) .agree
 
 module _ (sh : Sheet) (r : Rules sh) where
   succ-pred : (a t : ℕ) → a < blockCount sh → isIn t (succsOf sh a) ≡ true → isIn a (predsOf sh t) ≡ true

@@ -25,7 +25,7 @@ use Rattle.table.proofs.Sheets.{editRowOf, edits-are, long-of, part-of, rows-at
 use Rattle.table.proofs.Lookups.{edits-below}
 use Rattle.answer.specs.Text.{over, Laid}
 use Rattle.answer.specs.Rows.{editAt, countLine, rendered, Stands}
-use Rattle.answer.specs.Written.{EditCells}
+use Rattle.table.specs.Written.{EditCells}
 use Rattle.answer.proofs.Laying.{laid-as}
 use Rattle.answer.proofs.Cells.{field-number, edit-text}
 use Rattle.answer.proofs.Lines.{flat-map}

@@ -19,7 +19,7 @@ use Rattle.rules.specs.Accept.{samePlace}
 use Rattle.rules.specs.Answer.{placeCell, editCells}
 use Rattle.table.specs.Edits.{SmallPlace, SmallEdit}
 use Rattle.answer.specs.Text.{wordText, cellText}
-use Rattle.answer.specs.Written.{SmallValue, PlaceCell}
+use Rattle.table.specs.Written.{SmallValue, PlaceCell}
 
 module _ (c : ℕ) where
   pub cell-number : c < 100000 → digitsOf c ≡ cellText c

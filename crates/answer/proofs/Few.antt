@@ -22,7 +22,7 @@ use Rattle.table.proofs.Kindred.{begin-within}
 use Rattle.table.proofs.Lookups.{ops-below}
 use Rattle.answer.specs.Text.{wordText, cellText}
 use Rattle.answer.specs.Rows.{foldLine, foldAt, editAt, countLine, rendered}
-use Rattle.answer.specs.Written.{fourIn}
+use Rattle.table.specs.Written.{fourIn}
 use Rattle.answer.proofs.Numbers.{few-digits}
 
 -- one or the other

@@ -27,7 +27,7 @@ use Rattle.table.proofs.Orders.{ready-ops}
 use Rattle.table.proofs.Ranges.{before-within}
 use Rattle.table.proofs.Lookups.{all-named, ops-named, ops-below}
 use Rattle.answer.specs.Rows.{foldLine, foldAt}
-use Rattle.answer.specs.Written.{PlaceCell}
+use Rattle.table.specs.Written.{PlaceCell}
 use Rattle.answer.proofs.Runs.{keep-between, zipped, numbered, flat-same, stairs, before-up, before-none, before-all, before-below, before-above}
 use Rattle.answer.proofs.Cells.{field-place, cell-of-place, same-place}
 use Rattle.answer.proofs.Ops.{op-place}

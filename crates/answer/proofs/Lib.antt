@@ -7,3 +7,4 @@ pub mod Ops
 pub mod Folds
 pub mod Few
 pub mod Answer
+pub mod Refused

@@ -21,7 +21,7 @@ use Rattle.table.specs.View.{editRow}
 use Rattle.table.specs.declared.index.Range.{Range}
 use Rattle.answer.specs.Text.{Laid, cellText}
 use Rattle.answer.specs.Rows.{foldLine, foldAt, editAt, countLine}
-use Rattle.answer.specs.Written.{fourIn}
+use Rattle.table.specs.Written.{fourIn}
 use Rattle.answer.proofs.Laying.{laid-none, laid-then, laid-as}
 
 -- ---- one row more
@@ -105,3 +105,9 @@ unfolding countLine lineOf bytes flatMap
 count-line counts k h l =
     let e : k ≡ 9 = omega arith in
     rw e (ap (λ (l : List ℕ). bytes "count" ++ (l ++ bytes "\r\n")) (sym (flat-map (λ g. code "," ∷ g) (λ k. digitsOf (getD counts k 0)) (from 0 9))))
+
+-- ---- a refusal
+
+pub refused-line : (n : ℕ) → bytes "refused," ++ (digitsOf n ++ bytes "\r\n") ≡ lineOf (bytes "refused" ∷ digitsOf n ∷ [])
+unfolding lineOf bytes flatMap
+refused-line n = ap (λ (l : List ℕ). bytes "refused" ++ l) (joined-is (digitsOf n ∷ []) (bytes "\r\n"))

@@ -17,7 +17,7 @@ use Rattle.table.specs.Rows.{countIn, kindRow}
 use Rattle.table.specs.Index.{Ready}
 use Rattle.table.proofs.Loops.{and-left, and-right, never, all-at}
 use Rattle.table.proofs.Kindred.{count-is, kind-row-is}
-use Rattle.answer.specs.Written.{PlaceCell}
+use Rattle.table.specs.Written.{PlaceCell}
 
 -- what holds of each holds of those that are kept, with the test
 keep-both : {A : Type 0} (p f : A → Bool) (l : List A) → all p l ≡ true → all (λ x. p x && f x) (keep f l) ≡ true

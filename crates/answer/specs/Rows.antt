@@ -18,7 +18,7 @@ use Rattle.table.specs.Index.{Ready, rangeIn}
 use Rattle.table.specs.View.{editRow}
 use Rattle.table.specs.Edits.{editsIn, placesIn}
 use Rattle.answer.specs.Text.{cellText}
-use Rattle.answer.specs.Written.{fourIn, EditCells, PlaceCell}
+use Rattle.table.specs.Written.{fourIn, EditCells, PlaceCell}
 
 -- ---- as they are written
 

@@ -1,12 +1,11 @@
 // The rows of an answer, in document 01's order.
 ghost use mathlib.Core.Path.{_≡_};
 ghost use mathlib.Core.List.{[], _∷_, flatMap};
-ghost use Prim.Native.Nat.{_-_};
 ghost use lib.ListN.{length};
 ghost use Rattle.laws.specs.Lists.{from};
 ghost use Rattle.rules.specs.Cells.{digitsOf};
 ghost use Rattle.rules.specs.Forward.{Walk};
-ghost use Rattle.rules.specs.Answer.{output};
+ghost use Rattle.rules.specs.Answer.{output, refused, printed};
 ghost use Rattle.table.specs.Rows.{countIn};
 ghost use Rattle.table.specs.Sheet.{sheetIn};
 ghost use Rattle.answer.specs.Text.{over, Laid, cellText};
@@ -16,7 +15,9 @@ use crate::text::put_comma;
 use crate::text::put_end;
 use crate::text::put_number;
 use crate::text::put_text;
+use bits::numbers::less;
 use bits::tables::read_u32;
+use entity::forms::Refusal;
 use entity::numbers::EditRow;
 use entity::numbers::Inst;
 use table::index::op_rows;
@@ -52,13 +53,6 @@ fn put_fold(out: &mut [u8], at: usize, inst: u32, operand: u32, place: u32) -> u
     let c = put_next(out, b, operand);
     let d = put_field(out, c, place);
     put_end(out, d)
-}
-
-// A number less another, or 0.
-fn less(a: u32, b: u32) -> u32
-    ensures { λ r. ⌜ r ≡ a - b ⌝ }
-{
-    if b <= a { a - b } else { 0 }
 }
 
 // The fold row of an operand row whose place is altered.
@@ -139,4 +133,13 @@ pub fn render(t: &[u32], edits: &[u32], places: &[u32], counts: &[u32], out: &mu
     let a = put_folds(t, places, out, 0);
     let b = put_edits(t, edits, out, a);
     put_counts(counts, out, b)
+}
+
+// The row `refused,` and the number from the buffer's start, as far as it fits, and how long it is.
+pub fn render_refused(r: Refusal, out: &mut [u8]) -> usize
+    ensures { λ n. ⌜ (n ≡ length (printed (refused r))) × (now (out .exit) ≡ over (now (out .entry)) 0 (printed (refused r))) ⌝ }
+{
+    let a = put_text(out, 0, b"refused,");
+    let b = put_number(out, a, r.number());
+    put_end(out, b)
 }

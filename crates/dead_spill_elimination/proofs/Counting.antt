@@ -175,9 +175,5 @@ count-bound (e ∷ es) (x ∷ c) k cs = omega (arith, struck-more cs (e, x) k, c
 
 -- ---- by what the code stores
 
-pub counted-up : (k : ℕ) (cs : List ℕ) {l : List ℕ} {n : ℕ} → n ≡ getD cs k 0 → l ≡ set cs k (n + 1) → l ≡ count k cs
-unfolding count
-counted-up k cs q h = h ∙ rw q
-
 pub counted-as : (cs : List ℕ) {l : List ℕ} {e f : Edit} → e ≡ f → l ≡ for f cs → l ≡ struck cs (e, Nothing)
 counted-as cs {e = e} q h = h ∙ sym (struck-for cs e ∙ ap (λ (x : Edit). for x cs) q)

@@ -21,6 +21,7 @@ use Rattle.rules.specs.Sweep.{wantedAt, struck, strikeItems, strikeBlocks}
 use Rattle.run.proofs.Stand.{RowIn, in-map, in-left, in-right, same-block}
 use Rattle.run.proofs.Struck.{items-other, items-length}
 use Rattle.table.specs.Edits.{editsIn}
+use Rattle.table.specs.Written.{EditCells}
 use Rattle.table.proofs.Stored.{edits-length}
 use Rattle.dead_spill_elimination.specs.Slots.{Same}
 use Rattle.dead_spill_elimination.specs.Worklist.{Word}
@@ -53,6 +54,7 @@ module _ {t places cells₀ counts₀ ends : List ℕ} (h : All t places cells�
   pub record At (cells counts : List ℕ) (b : ℕ) : Type 0 where
     pub rest : run turn (now cells) (from b (length ends - b)) ≡ strikeBlocks (h .sheet) (h .places-are) (h .edits) (h .after)
     pub counted : counts ≡ run struck counts₀ (zip (h .edits) (now cells))
+    pub exact : (j : ℕ) → j < length (h .edits) → EditCells cells₀ j → EditCells cells j
     pub ahead : (b′ i j : ℕ) → b ≤ b′ → In i (instsOf (h .sheet) b′) → In j (editsAt (h .sheet) i) → getD (now cells) j Nothing ≡ getD (h .edits) j Nothing
 
   at-first : At cells₀ counts₀ 0
@@ -62,16 +64,17 @@ module _ {t places cells₀ counts₀ ends : List ℕ} (h : All t places cells�
       record {
         rest = rw (z, h .blocks, h .rows);
         counted = sym (ap (λ (c : List Edit). run struck counts₀ (zip (h .edits) c)) (h .rows) ∙ struck-none (h .edits) counts₀);
+        exact = λ j l x. x;
         ahead = λ b′ i j l m n. ap (λ (c : List Edit). getD c j Nothing) (h .rows);
       }
 
   -- what is to be done at block b
   abbrev work : List ℕ → ℕ → Work
-  work cells b = record { sheet = h .sheet; places = h .places-are; edits = h .edits; counts = counts₀; after = getD (h .after) b []; now = now cells }
+  work cells b = record { sheet = h .sheet; places = h .places-are; edits = h .edits; cells = cells₀; counts = counts₀; after = getD (h .after) b []; now = now cells }
 
   begun : (cells counts : List ℕ) (b : ℕ) (S : NumberSet) → length cells ≡ length cells₀ → At cells counts b → Same S (getD (h .after) b []) → Pos (work cells b) [] cells counts S
   unfolding strikeItems wantedAt
-  begun cells counts b S e a s = record { rows = refl; counted = a .counted; room = rw e (h .room); wanted = s }
+  begun cells counts b S e a s = record { rows = refl; counted = a .counted; room = rw e (h .room); wanted = s; exact = a .exact }
 
   at-next : (cells counts cells′ counts′ : List ℕ) (b : ℕ) (S : NumberSet) → b < length ends → At cells counts b → Pos (work cells b) (items (h .sheet) b) cells′ counts′ S → At cells′ counts′ (suc b)
   unfolding run from
@@ -82,6 +85,7 @@ module _ {t places cells₀ counts₀ ends : List ℕ} (h : All t places cells�
             ap (λ (c : List Edit). run turn c (from (suc b) (length ends - suc b))) (p .rows)
             ∙ subst (λ (m : ℕ). run turn (now cells) (from b m) ≡ strikeBlocks (h .sheet) (h .places-are) (h .edits) (h .after)) n (a .rest);
         counted = p .counted ∙ ap (λ (c : List Edit). run struck counts₀ (zip (h .edits) c)) (sym (p .rows));
+        exact = p .exact;
         ahead = λ b′ i j m u v.
             ap (λ (c : List Edit). getD c j Nothing) (p .rows)
             ∙ items-other (h .sheet) (h .places-are) (h .edits) j (items (h .sheet) b) (getD (h .after) b []) (now cells)
@@ -95,7 +99,7 @@ module _ {t places cells₀ counts₀ ends : List ℕ} (h : All t places cells�
       let z : length ends - b ≡ 0 = omega arith in
       let e : now cells ≡ strikeBlocks (h .sheet) (h .places-are) (h .edits) (h .after) =
       subst (λ (m : ℕ). run turn (now cells) (from b m) ≡ strikeBlocks (h .sheet) (h .places-are) (h .edits) (h .after)) z (a .rest) in
-      record { struck-rows = e; counted = a .counted ∙ ap (λ (c : List Edit). run struck counts₀ (zip (h .edits) c)) e }
+      record { struck-rows = e; counted = a .counted ∙ ap (λ (c : List Edit). run struck counts₀ (zip (h .edits) c)) e; exact = a .exact }
 
 -- ---- the loop
 

@@ -20,6 +20,7 @@ use Rattle.entity.specs.declared.forms.Edit.{Edit}
 use Rattle.entity.specs.declared.forms.Edit.the-variants.{Move, Remat, Espill, Ereload, Misplaced, Nothing}
 use Rattle.rules.specs.Cells.{word, find, words}
 use Rattle.rules.specs.Sheet.{Sheet, editOf, instsOf}
+use Rattle.rules.specs.Accept.{placed}
 use Rattle.rules.specs.Forward.{editsAt}
 use Rattle.rules.specs.Answer.{editCells}
 use Rattle.rules.specs.Function.{edit, inst, Item, row, ins, items, look, instOf, In}
@@ -31,7 +32,8 @@ use Rattle.entity.specs.Limits.{blockLimit, instLimit}
 use Rattle.table.specs.Index.{rangeIn}
 use Rattle.table.specs.Edits.{editIn, editsIn, withEdit}
 use Rattle.table.specs.declared.index.Range.{Range}
-use Rattle.table.proofs.Stored.{edits-length, edits-at, edits-with, with-length}
+use Rattle.table.specs.Written.{EditCells}
+use Rattle.table.proofs.Stored.{edits-length, edits-at, edits-with, with-length, cells-with}
 use Rattle.dead_spill_elimination.specs.Slots.{Same, LowReads, lacks, deadIn, numbers, instBack}
 use Rattle.dead_spill_elimination.specs.Strikes.{Few, Struck, Work, struckFrom, wantedFrom, Pos, Rows, Linked}
 use Rattle.dead_spill_elimination.proofs.Members.{same-in}
@@ -61,6 +63,10 @@ dead-strike Nothing S A h = refl
 none-back : (let cs = editCells Nothing in editOf (getD cs 0 0) (getD cs 1 0) (getD cs 2 0) (getD cs 3 0)) ≡ Nothing
 unfolding editCells editOf word find words
 none-back = refl
+
+none-exact : (cells : List ℕ) (j i : ℕ) → i * 4 + 3 < length cells → EditCells cells i → EditCells (withEdit cells j Nothing) i
+unfolding placed
+none-exact cells j i h c = cells-with cells j Nothing i h refl tt tt c
 
 -- ---- a row, by what the code stores
 
@@ -102,14 +108,14 @@ module _ (w : Work) where
     next-kept : deadIn S (getD (w .edits) j Nothing) ≡ false → struckFrom w (row j ∷ l) ≡ struckFrom w l
     next-kept d = next ∙ rw d (ap (set (struckFrom w l) j) (sym fresh) ∙ set-getD (struckFrom w l) j Nothing)
 
-    few-now : ((k : ℕ) → getD (w .counts) k 0 + length (w .edits) < 1000000) → (k : ℕ) → getD counts k 0 < 1000000
+    few-now : ((k : ℕ) → getD (w .counts) k 0 + length (w .edits) < 4294967295) → (k : ℕ) → getD counts k 0 < 4294967295
     few-now f k = rw (p .counted) (omega (arith, f k, count-bound (w .edits) (struckFrom w l) k (w .counts)))
 
     wants : {cells′ counts′ : List ℕ} {S′ : NumberSet} → Struck j S cells counts cells′ counts′ S′ → LowReads (edit (getD (w .edits) j Nothing)) → Same S′ (wantedFrom w (row j ∷ l))
     unfolding wantedAt look
     wants {S′ = S′} s low = subst (λ (e : Edit). LowReads (edit e) → Same S′ (wantedBefore (edit e) (wantedFrom w l))) read (λ x. s .kept (wantedFrom w l) x (p .wanted)) low
 
-    pub row-step : {cells′ counts′ : List ℕ} {S′ : NumberSet} → LowReads (edit (getD (w .edits) j Nothing)) → ((k : ℕ) → getD (w .counts) k 0 + length (w .edits) < 1000000) → Struck j S cells counts cells′ counts′ S′ → Pos w (row j ∷ l) cells′ counts′ S′
+    pub row-step : {cells′ counts′ : List ℕ} {S′ : NumberSet} → LowReads (edit (getD (w .edits) j Nothing)) → ((k : ℕ) → getD (w .counts) k 0 + length (w .edits) < 4294967295) → Struck j S cells counts cells′ counts′ S′ → Pos w (row j ∷ l) cells′ counts′ S′
     row-step {cells′} {counts′} {S′} low f s =
         let N : ℕ = length (w .edits) in
         let ce : cells′ ≡ cond (deadIn S (getD (w .edits) j Nothing)) (withEdit cells j Nothing) cells = s .cells-are ∙ ap (λ (e : Edit). cond (deadIn S e) (withEdit cells j Nothing) cells) read in
@@ -126,6 +132,7 @@ module _ (w : Work) where
               ∙ ap (λ (x : List Edit). run struck (w .counts) (zip (w .edits) x)) (sym (next-dead d));
           room = rw (ce′, with-length cells j Nothing) (p .room);
           wanted = wants s low;
+          exact = λ i m x. rw ce′ (none-exact cells j i (omega (arith, p .room)) (p .exact i m x));
         })
         (λ d.
         let ce′ : cells′ ≡ cells = ce ∙ rw d in
@@ -135,6 +142,7 @@ module _ (w : Work) where
           counted = cu′ ∙ p .counted ∙ ap (λ (x : List Edit). run struck (w .counts) (zip (w .edits) x)) (sym (next-kept d));
           room = rw ce′ (p .room);
           wanted = wants s low;
+          exact = λ i m x. rw ce′ (p .exact i m x);
         })
 
 -- ---- a loop over rows
@@ -190,6 +198,7 @@ module _ (w : Work) (l : List Item) (i : ℕ) where
         counted = p .counted;
         room = p .room;
         wanted = same-in _ (instBack t places i (wantedFrom w l)) (wantedBefore (inst (instOf (w .sheet) (w .places) (w .edits) i)) (wantedFrom w l)) (k .at-inst i (wantedFrom w l)) h;
+        exact = p .exact;
       }
 
   pub rows-at : (js : List ℕ) → Rows w js l → Rows w js (ins i ∷ l)

@@ -87,7 +87,7 @@ module _ {t edits places counts : List ℕ} (h : Held t edits places counts) whe
   unfolding all-of
   done X n w cells′ counts′ r =
       let N : length es ≡ length (sh .edits) = edits-length edits (length (sh .edits)) in
-      record { edits-are = subst (λ (m : ℕ). editsIn cells′ m ≡ sweptEdits t edits places) N (r .struck-rows); counts-are = r .counted }
+      record { edits-are = subst (λ (m : ℕ). editsIn cells′ m ≡ sweptEdits t edits places) N (r .struck-rows); counts-are = r .counted; cells-kept = λ j l x. r .exact j (rw N l) x }
 
   pub swept : (n : ℕ) (X : List ℕ) {cells′ counts′ : List ℕ} → n ≡ blockCount sh → length X ≡ n
       → ((f : Func) → Facts t edits places f n → (b s : ℕ) → (bit (getD X b 0) s ≡ true) ↔ WantedAtEnd f b s)

@@ -2,9 +2,10 @@
 use mathlib.Core.Path.{_≡_}
 use mathlib.Core.Bool.{true}
 use mathlib.Core.List.{List, zip}
-use Prim.Native.Nat.{ℕ, _*_, _≤_, _<_}
+use Prim.Native.Nat.{ℕ, _+_, _*_, _≤_, _<_}
 use lib.ListN.{length, getD}
 use Rattle.laws.specs.Fold.{run}
+use Rattle.entity.specs.Limits.{editLimit}
 use Rattle.entity.specs.declared.forms.Place.{Place}
 use Rattle.entity.specs.declared.forms.Edit.{Edit}
 use Rattle.rules.specs.Accept.{listsAgree, inOrder}
@@ -13,6 +14,7 @@ use Rattle.rules.specs.Sweep.{ends, struck, strikeBlocks}
 use Rattle.table.specs.Sheet.{sheetIn}
 use Rattle.table.specs.Index.{Ready}
 use Rattle.table.specs.Edits.{editIn, editsIn, placeIn, placesIn}
+use Rattle.table.specs.Written.{EditCells}
 use Rattle.dead_spill_elimination.specs.Slots.{Low, LowReads}
 
 -- the rows of the edits, and the places of the operands
@@ -31,9 +33,9 @@ pub record Held (t edits places counts : List ℕ) : Type 0 where
   pub low-edits : (j : ℕ) → j < length (sheetIn t .edits) → LowReads (edit (editIn edits j))
   pub low-places : (n : ℕ) → n < length (sheetIn t .ops) → Low (slotOf (placeIn places n))
   pub room : length (sheetIn t .edits) * 4 ≤ length edits
-  pub few : (k : ℕ) → getD counts k 0 < 900000
+  pub few : (k : ℕ) → getD counts k 0 + editLimit < 4294967295
 
--- the edits and the counts afterwards are those of `sweep`
+-- the edits and the counts afterwards are those of `sweep`; cells that were an edit row's still are
 abbrev pub sweptEdits : List ℕ → List ℕ → List ℕ → List Edit
 sweptEdits t edits places =
     let sh = sheetIn t in
@@ -44,3 +46,4 @@ sweptEdits t edits places =
 pub record Swept (t edits places counts edits′ counts′ : List ℕ) : Type 0 where
   pub edits-are : theEdits t edits′ ≡ sweptEdits t edits places
   pub counts-are : counts′ ≡ run struck counts (zip (theEdits t edits) (sweptEdits t edits places))
+  pub cells-kept : (j : ℕ) → j < length (sheetIn t .edits) → EditCells edits j → EditCells edits′ j

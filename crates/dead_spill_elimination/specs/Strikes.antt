@@ -16,13 +16,14 @@ use Rattle.rules.specs.Forward.{editsAt}
 use Rattle.rules.specs.Function.{edit, inst, Item, instOf, look, In}
 use Rattle.rules.specs.Sweep.{wantedBefore, wantedAt, struck, strikeItems, strikeBlocks}
 use Rattle.table.specs.Edits.{editIn, editsIn, withEdit}
+use Rattle.table.specs.Written.{EditCells}
 use Rattle.table.specs.Index.{rangeIn}
 use Rattle.dead_spill_elimination.specs.Slots.{Same, Low, LowReads, deadIn, numbers, usesAt, instBack}
 use Rattle.dead_spill_elimination.specs.Worklist.{Word}
 
 -- the counts of struck rows can be counted up
 abbrev pub Few : List ℕ → Type 0
-Few counts = (getD counts 7 0 < 1000000) × (getD counts 8 0 < 1000000)
+Few counts = (getD counts 7 0 < 4294967295) × (getD counts 8 0 < 4294967295)
 
 -- row j in cells is struck by what S has
 pub record Struck (j : ℕ) (S : NumberSet) (cells counts cells′ counts′ : List ℕ) (S′ : NumberSet) : Type 0 where
@@ -30,11 +31,12 @@ pub record Struck (j : ℕ) (S : NumberSet) (cells counts cells′ counts′ : L
   pub cells-are : cells′ ≡ cond (deadIn S (editIn cells j)) (withEdit cells j Nothing) cells
   pub counts-are : Few counts → counts′ ≡ cond (deadIn S (editIn cells j)) (struck counts (editIn cells j, Nothing)) counts
 
--- a sheet with places, edits and counts; the slots wanted at the end of a block, and the edits as they are when its striking begins
+-- a sheet with places, edits, the cells that they stand in, and counts; the slots wanted at the end of a block, and the edits as they are when its striking begins
 pub record Work : Type 0 where
   pub sheet : Sheet
   pub places : List Place
   pub edits : List Edit
+  pub cells : List ℕ
   pub counts : List ℕ
   pub after : List ℕ
   pub now : List Edit
@@ -52,13 +54,14 @@ pub record Pos (w : Work) (l : List Item) (cells counts : List ℕ) (S : NumberS
   pub counted : counts ≡ run struck (w .counts) (zip (w .edits) (struckFrom w l))
   pub room : length (w .edits) * 4 ≤ length cells
   pub wanted : Same S (wantedFrom w l)
+  pub exact : (j : ℕ) → j < length (w .edits) → EditCells (w .cells) j → EditCells cells j
 
 -- rows js can be struck, where the code has come to l
 pub record Rows (w : Work) (js : List ℕ) (l : List Item) : Type 0 where
   pub there : (j : ℕ) → In j js → j < length (w .edits)
   pub fresh : (j : ℕ) → In j js → getD (struckFrom w l) j Nothing ≡ getD (w .edits) j Nothing
   pub low : (j : ℕ) → In j js → LowReads (edit (getD (w .edits) j Nothing))
-  pub few : (k : ℕ) → getD (w .counts) k 0 + length (w .edits) < 1000000
+  pub few : (k : ℕ) → getD (w .counts) k 0 + length (w .edits) < 4294967295
 
 -- the table and the places are those of the sheet
 pub record Linked (t places : List ℕ) (sh : Sheet) (ps : List Place) (es : List Edit) (counts : List ℕ) : Type 0 where
@@ -67,7 +70,7 @@ pub record Linked (t places : List ℕ) (sh : Sheet) (ps : List Place) (es : Lis
   pub at-inst : (i : ℕ) (A : List ℕ) (k : ℕ) → isIn k (instBack t places i A) ≡ isIn k (wantedBefore (inst (instOf sh ps es i)) A)
   pub low-uses : (n : ℕ) → Low (usesAt t places n)
   pub low-rows : (j : ℕ) → LowReads (edit (getD es j Nothing))
-  pub few : (k : ℕ) → getD counts k 0 + length es < 1000000
+  pub few : (k : ℕ) → getD counts k 0 + length es < 4294967295
   pub many : length es ≡ length (sh .edits)
 
 -- all blocks can be struck: `ends` has a word for each block, of the slots wanted at its end
@@ -86,3 +89,4 @@ pub record All (t places cells counts ends : List ℕ) : Type 0 where
 pub record Outcome {t places cells counts ends : List ℕ} (h : All t places cells counts ends) (cells′ counts′ : List ℕ) : Type 0 where
   pub struck-rows : editsIn cells′ (length (h .edits)) ≡ strikeBlocks (h .sheet) (h .places-are) (h .edits) (h .after)
   pub counted : counts′ ≡ run struck counts (zip (h .edits) (strikeBlocks (h .sheet) (h .places-are) (h .edits) (h .after)))
+  pub exact : (j : ℕ) → j < length (h .edits) → EditCells cells j → EditCells cells′ j

@@ -17,7 +17,7 @@ use bits::tables::store_u8;
 use bits::tables::store_u64;
 use entity::numbers::Block;
 use entity::sets::SlotSet;
-use table::view::preds;
+use graph::preds;
 
 // The set of a word.
 pub fn slots_of(w: u64) -> SlotSet

@@ -7,7 +7,7 @@ ghost use lib.ListN.{length, getD};
 ghost use Rattle.bits.specs.declared.sets.NumberSet.{NumberSet};
 ghost use Rattle.entity.specs.Limits.{instLimit};
 ghost use Rattle.rules.specs.Sheet.{blockCount, instsOf};
-ghost use Rattle.rules.specs.Forward.{count, editsAt};
+ghost use Rattle.rules.specs.Forward.{editsAt};
 ghost use Rattle.rules.specs.Function.{Item, row, ins, items, In};
 ghost use Rattle.rules.specs.Sweep.{struck};
 ghost use Rattle.table.specs.Index.{rangeIn};
@@ -21,14 +21,14 @@ use crate::ends::slots_of;
 use crate::wanted::before_edit;
 use crate::wanted::before_inst;
 use crate::wanted::is_dead;
-use bits::tables::read_u32;
 use bits::tables::read_u64;
-use bits::tables::store_u32;
 use entity::forms::Edit;
 use entity::numbers::Block;
 use entity::numbers::EditRow;
 use entity::numbers::Inst;
 use entity::sets::SlotSet;
+use table::counts::Count;
+use table::counts::tally;
 use table::edits::read_edit;
 use table::edits::store_edit;
 use table::index::Range;
@@ -36,20 +36,6 @@ use table::index::edit_rows;
 use table::index::insts_of;
 use table::rows::Kind;
 use table::rows::count;
-
-// The places of the two counts in the count row.
-const DEAD_SPILL: usize = 7;
-
-const DEAD_REMAT: usize = 8;
-
-fn count_up(counts: &mut [u32], k: usize)
-    ensures { λ _. ⌜ (getD (now (counts .entry)) k 0 < 1000000 → now (counts .exit) ≡ count k (now (counts .entry))) ⌝ }
-{
-    let n = read_u32(counts, k);
-    if n < 1000000 {
-        store_u32(counts, k, n + 1);
-    }
-}
 
 // An edit that is struck is counted.
 fn count_struck(counts: &mut [u32], e: Edit)
@@ -60,8 +46,8 @@ fn count_struck(counts: &mut [u32], e: Edit)
             to: _,
             from: _,
             value: _,
-        } => count_up(counts, DEAD_SPILL),
-        Edit::Remat { to: _, value: _ } => count_up(counts, DEAD_REMAT),
+        } => tally(counts, Count::DEAD_SPILL),
+        Edit::Remat { to: _, value: _ } => tally(counts, Count::DEAD_REMAT),
         Edit::Espill { to: _, from: _ } => {}
         Edit::Ereload { to: _, from: _ } => {}
         Edit::Misplaced { to: _, from: _ } => {}

@@ -1,1 +1,5 @@
 pub mod Refusing
+pub mod Loading
+pub mod Fitting
+pub mod Cleaning
+pub mod Theorem

@@ -1,14 +1,14 @@
--- What the answers of the checks say of the first refusal, and what is kept of the buffer. Assumes nothing.
+-- What the answers of the checks say of the first refusal, and what the call then answers. Assumes nothing.
 use mathlib.Core.Path.{_≡_, refl, sym, _∙_, ap}
 use mathlib.Core.Bool.{Bool, true, false, cond, not, false≢true}
 use mathlib.Core.List.{List}
 use mathlib.Core.Option.{Option, none, some, bind, Option·elim}
-use Prim.Native.Nat.{ℕ, zero, suc, _%_, _≤_, _<_}
+use Prim.Native.Nat.{ℕ, _≤_, _<_}
 use native.Mathlib.Omega.{arith}
 use lib.Dec.{leb, eqb}
-use lib.IntN.{ℤ, pos, negsuc, negℤ, pos-ne-negsuc}
+use lib.IntN.{ℤ, pos, negℤ}
 use lib.ListN.{length}
-use borrow.Author.Tests.{le-leb, lt-leb}
+use borrow.Author.Tests.{le-leb, lt-leb, leb-true}
 use Rattle.laws.proofs.Cases.{by-bool}
 use Rattle.entity.specs.Forms.{levelOf, refusalNumber}
 use Rattle.entity.specs.declared.forms.Level.{Level}
@@ -19,12 +19,12 @@ use Rattle.entity.specs.declared.forms.Refusal.the-variants.{Rows, Limits, Name
 use Rattle.rules.specs.Rows.{cellsOf, sheetOk, rowsOf}
 use Rattle.rules.specs.Sheet.{Sheet, sheetOf}
 use Rattle.rules.specs.Accept.{withinLimits, namesHold, blocksHold, operandsHold, editsHold}
-use Rattle.rules.specs.Answer.{Answer, refused, firstRefusal, checks, checked, called, answer, cleaned, fitted}
+use Rattle.rules.specs.Answer.{Answer, refused, written, firstRefusal, checks, checked, called, answer, cleaned, fitted, buffer, returned}
 use Rattle.table.specs.Table.{Indexed}
 use Rattle.table.specs.Sheet.{sheetIn}
 use Rattle.table.specs.Index.{Built, Ready}
 use Rattle.table.proofs.Sheets.{sheet-in-is}
-use Rattle.drifthurdle.specs.Call.{sheetRefusal, refusal, AnswerIs, asChecked, Fits, room, fits, Kept, FitsNumber, minus-room, length-fits, KeptNumber}
+use Rattle.drifthurdle.specs.Call.{sheetRefusal, asChecked, TableOf, sheetAnswer, asOutcome, Gives}
 use Rattle.drifthurdle.specs.declared.Checked.{Checked}
 use Rattle.drifthurdle.specs.declared.Checked.the-variants as Checked
 use Rattle.drifthurdle.specs.declared.Outcome.{Outcome}
@@ -40,11 +40,11 @@ pub is-true : {b : Bool} → not b ≡ false → b ≡ true
 is-true {b = true} e = refl
 is-true {b = false} e = absurd (false≢true (sym e))
 
-by-option : {A C : Type 0} (o : Option A) → (o ≡ none → C) → ((a : A) → o ≡ some a → C) → C
+pub by-option : {A C : Type 0} (o : Option A) → (o ≡ none → C) → ((a : A) → o ≡ some a → C) → C
 by-option none f g = f refl
 by-option (some a) f g = g a refl
 
-some-ne-none : {A C : Type 0} {a : A} {o : Option A} → o ≡ some a → o ≡ none → C
+pub some-ne-none : {A C : Type 0} {a : A} {o : Option A} → o ≡ some a → o ≡ none → C
 some-ne-none e f = let z : _≡_ {A = ℕ} 0 1 = cc in absurd (omega arith)
 
 -- ---- 1
@@ -65,6 +65,11 @@ rows-ok s rs e =
     kept : (o : Option (List (List ℕ))) → bind o (λ rows. cond (sheetOk rows) (some rows) none) ≡ some rs → sheetOk rs ≡ true
     kept none e = some-ne-none e refl
     kept (some rows) e = held rows e
+
+-- a sheet has its rows once
+pub one-rows : (s : List ℕ) {rs rs′ : List (List ℕ)} {t : List ℕ} → rowsOf s ≡ some rs → rowsOf s ≡ some rs′ → (firstRefusal (checks (sheetOf rs)) ≡ none → TableOf rs t)
+    → firstRefusal (checks (sheetOf rs′)) ≡ none → TableOf rs′ t
+one-rows s {rs} {rs′} e f g = let z : some rs ≡ some rs′ = sym e ∙ f in let q : rs ≡ rs′ = cc in rw q at g
 
 pub rows-refuse : (s : List ℕ) → rowsOf s ≡ none → Checked.Refused Rows ≡ asChecked (sheetRefusal s)
 unfolding sheetRefusal asChecked Option·elim
@@ -153,16 +158,22 @@ module _ {rs : List (List ℕ)} {t : List ℕ} (x : Indexed rs t) (ok : sheetOk 
           pub all-pass : d ≡ true → Checked.Accepted ≡ asChecked (firstRefusal (checks (sheetOf rs)))
           all-pass e = none-fails (sheetOf rs) limits named (sym blocks-are ∙ b!) (sym operands-are ∙ o!) (sym edits-are ∙ e)
 
--- ---- the buffer
+-- ---- the table, where no check fails
 
-written-ne-refused : {C : Type 0} {o : Outcome} {n : ℕ} {r : Refusal} → o ≡ Outcome.Written n → o ≡ Outcome.Refused r → C
-written-ne-refused e f = let z : _≡_ {A = ℕ} 0 1 = cc in absurd (omega arith)
+none-named : (sh : Sheet) → withinLimits sh ≡ true → firstRefusal (checks sh) ≡ none → namesHold sh ≡ true
+unfolding checks firstRefusal
+none-named sh p e = by-bool (namesHold sh) (λ q. q) (λ q. let z : some Names ≡ none = rw (p, q) at e in some-ne-none refl z)
 
-pub kept-room : (out : List ℕ) → Kept none (Outcome.Refused Room) out out
-kept-room out = record { refuses = λ r e. some-ne-none e refl; accepts = λ e. room refl; untouched = λ r e. refl }
+pub no-limits : {rs : List (List ℕ)} {t t′ : List ℕ} → Indexed rs t → {w : Bool} → w ≡ withinLimits (sheetIn t) → w ≡ false → firstRefusal (checks (sheetOf rs)) ≡ none → TableOf rs t′
+unfolding checks firstRefusal
+no-limits {rs} x e f n =
+    let p : withinLimits (sheetOf rs) ≡ false = sym (e ∙ ap withinLimits (sheet-in-is x)) ∙ f in
+    let z : some Limits ≡ none = rw p at n in some-ne-none refl z
 
-pub kept-written : (out new : List ℕ) (n : ℕ) → n ≤ length out → Kept none (Outcome.Written n) out new
-kept-written out new n h = record { refuses = λ r e. some-ne-none e refl; accepts = λ e. fits n h refl; untouched = λ r e. written-ne-refused refl e }
+pub tabled : {rs : List (List ℕ)} {t : List ℕ} → Indexed rs t → sheetOk rs ≡ true → withinLimits (sheetOf rs) ≡ true → Built t → firstRefusal (checks (sheetOf rs)) ≡ none → TableOf rs t
+tabled {rs} x ok l b e = record { ready = ready x ok l b (none-named (sheetOf rs) l e); is = sheet-in-is x }
+
+-- ---- 1 to 6, and the answer
 
 refused-some : {o : Option Refusal} {r : Refusal} → Checked.Refused r ≡ asChecked o → o ≡ some r
 unfolding asChecked
@@ -174,37 +185,57 @@ unfolding asChecked
 accepted-none {o = none} e = refl
 accepted-none {o = some q} e = let z : _≡_ {A = ℕ} 0 1 = cc in absurd (omega arith)
 
-kept-refused : {w : Option Refusal} {r : Refusal} (out : List ℕ) → w ≡ some r → Kept w (Outcome.Refused r) out out
-kept-refused out e =
-    record {
-      refuses = λ q f. let z : some q ≡ some _ = sym f ∙ e in cc;
-      accepts = λ f. some-ne-none e f;
-      untouched = λ q f. refl;
-    }
+-- a refusal writes nothing
+gives-refused : {a : Answer} {r : Refusal} (out : List ℕ) → a ≡ refused r → Gives a (Outcome.Refused r) out out
+unfolding asOutcome buffer
+gives-refused out e = rw e (refl, refl)
 
-pub check-refused : {c : Checked} {w : Option Refusal} {r : Refusal} (out : List ℕ) → c ≡ asChecked w → c ≡ Checked.Refused r → Kept w (Outcome.Refused r) out out
-check-refused out e f = kept-refused out (refused-some (sym f ∙ e))
+module _ (sheet : List ℕ) (level : Level) (swept : Bool) where
+  sheet-refused : (n : ℕ) {r : Refusal} → sheetRefusal sheet ≡ some r → sheetAnswer sheet level swept n ≡ refused r
+  unfolding sheetRefusal sheetAnswer checked Option·elim
+  sheet-refused n {r} e =
+      by-option (rowsOf sheet)
+      (λ q. let e′ : some Rows ≡ some r = rw q at e in let z : Rows ≡ r = cc in rw (q, z))
+      (λ rows q. let e′ : firstRefusal (checks (sheetOf rows)) ≡ some r = rw q at e in rw (q, e′))
 
-pub check-accepted : {c : Checked} {w : Option Refusal} {o : Outcome} {out new : List ℕ} → c ≡ asChecked w → c ≡ Checked.Accepted → Kept none o out new → Kept w o out new
-check-accepted e f k = rw (accepted-none (sym f ∙ e)) k
+  sheet-accepted : (n : ℕ) → sheetRefusal sheet ≡ none
+      → (rows : List (List ℕ)) × (rowsOf sheet ≡ some rows) × (firstRefusal (checks (sheetOf rows)) ≡ none) × (sheetAnswer sheet level swept n ≡ fitted (cleaned (sheetOf rows) level swept) n)
+  unfolding sheetRefusal sheetAnswer checked Option·elim
+  sheet-accepted n e =
+      by-option (rowsOf sheet)
+      (λ q. let e′ : some Rows ≡ none = rw q at e in some-ne-none refl e′)
+      (λ rows q. let e′ : firstRefusal (checks (sheetOf rows)) ≡ none = rw q at e in (rows, q, e′, rw (q, e′)))
+
+  module _ {c : Checked} (k : c ≡ asChecked (sheetRefusal sheet)) (out : List ℕ) where
+    pub check-refused : {r : Refusal} → c ≡ Checked.Refused r → Gives (sheetAnswer sheet level swept (length out)) (Outcome.Refused r) out out
+    check-refused f = gives-refused out (sheet-refused (length out) (refused-some (sym f ∙ k)))
+
+    pub check-accepted : {o : Outcome} {new : List ℕ} {t : List ℕ} → c ≡ Checked.Accepted
+        → ((rs : List (List ℕ)) → rowsOf sheet ≡ some rs → firstRefusal (checks (sheetOf rs)) ≡ none → TableOf rs t)
+        → (Ready t → firstRefusal (checks (sheetIn t)) ≡ none → Gives (fitted (cleaned (sheetIn t) level swept) (length out)) o out new)
+        → Gives (sheetAnswer sheet level swept (length out)) o out new
+    check-accepted f T G =
+        let w = sheet-accepted (length out) (accepted-none (sym f ∙ k)) in
+        let x = T (w .0) (w .1) (w .2) in
+        rw (w .3) (rw (x .is) at (G (x .ready) (rw (x .is) (w .2))))
 
 -- ---- 7
 
 module _ (sheet : List ℕ) (level flag : ℕ) where
-  pub call-refused : (out : List ℕ) → called level flag ≡ none → Kept (refusal sheet level flag) (Outcome.Refused Call) out out
-  unfolding refusal Option·elim
-  call-refused out e = rw e (kept-refused out refl)
+  pub call-refused : (out : List ℕ) → called level flag ≡ none → Gives (answer sheet level flag (length out)) (Outcome.Refused Call) out out
+  unfolding answer Option·elim
+  call-refused out e = gives-refused out (rw e)
 
-  pub call-passed : {l : Level} {s : Bool} {o : Outcome} {out new : List ℕ} → called level flag ≡ some (l, s) → Kept (sheetRefusal sheet) o out new
-      → Kept (refusal sheet level flag) o out new
-  unfolding refusal Option·elim
-  call-passed e k = rw e k
+  pub call-passed : (out : List ℕ) {l : Level} {s : Bool} {o : Outcome} {new : List ℕ} → called level flag ≡ some (l, s) → Gives (sheetAnswer sheet l s (length out)) o out new
+      → Gives (answer sheet level flag (length out)) o out new
+  unfolding answer sheetAnswer Option·elim
+  call-passed out e k = rw e k
 
-abbrev by-level : FoundLevel → ℕ → Option (Level × Bool)
+abbrev pub by-level : FoundLevel → ℕ → Option (Level × Bool)
 by-level (Found.At l) flag = cond (leb flag 1) (some (l, eqb flag 1)) none
 by-level Found.Nothing flag = none
 
-called-is : (level flag : ℕ) → called level flag ≡ by-level (levelOf level) flag
+pub called-is : (level flag : ℕ) → called level flag ≡ by-level (levelOf level) flag
 unfolding called
 called-is level flag = go (levelOf level)
   where
@@ -226,63 +257,88 @@ module _ {f : FoundLevel} (level : ℕ) (e : f ≡ levelOf level) (flag : ℕ) w
       called-is level flag ∙ ap (λ (x : FoundLevel). by-level x flag) (sym e ∙ g)
       ∙ ap (λ (b : Bool). cond b (some (l, eqb flag 1)) none) (le-leb flag 1 h)
 
--- ---- the answer
+-- ---- a text that is written
 
-pub answer-is : (sheet : List ℕ) (level flag capacity : ℕ) → AnswerIs sheet level flag capacity
-unfolding refusal sheetRefusal answer checked Option·elim
-answer-is sheet level flag capacity =
+refused-not : {C : Type 0} {a : Answer} {r : Refusal} {text : List ℕ} → a ≡ refused r → a ≡ written text → C
+refused-not e f = let z : _≡_ {A = ℕ} 0 1 = cc in absurd (omega arith)
+
+-- a text that fits is the text
+fitted-text : (text : List ℕ) (capacity : ℕ) {out : List ℕ} → fitted text capacity ≡ written out → (out ≡ text) × (length text ≤ capacity)
+unfolding fitted
+fitted-text text capacity {out} e =
+    by-bool (leb (length text) capacity)
+    (λ p. let e′ : written text ≡ written out = rw (p, fitted) at e in (cc, leb-true _ _ p))
+    (λ p. refused-not {r = Room} (rw (p, fitted)) e)
+
+-- what is known where the answer is a text
+pub record Wrote (sheet : List ℕ) (level flag capacity : ℕ) (out : List ℕ) : Type 0 where
+  pub rows : List (List ℕ)
+  pub named : Level
+  pub rows-are : rowsOf sheet ≡ some rows
+  pub level-is : levelOf level ≡ Found.At named
+  pub pass : firstRefusal (checks (sheetOf rows)) ≡ none
+  pub text : out ≡ cleaned (sheetOf rows) named (eqb flag 1)
+  pub fits : length out ≤ capacity
+
+level-of : (level flag : ℕ) (c : Level × Bool) → called level flag ≡ some c → (levelOf level ≡ Found.At (c .0)) × (c .1 ≡ eqb flag 1)
+level-of level flag c e = go (levelOf level) (sym (called-is level flag) ∙ e)
+  where
+    go : (f : FoundLevel) → by-level f flag ≡ some c → (f ≡ Found.At (c .0)) × (c .1 ≡ eqb flag 1)
+    go (Found.At l) e =
+        by-bool (leb flag 1)
+        (λ p.
+        let e′ : some (l, eqb flag 1) ≡ some c = rw p at e in
+        let q : (l, eqb flag 1) ≡ c = cc in
+        (ap (λ (x : Level × Bool). Found.At (x .0)) q, sym (ap (λ (x : Level × Bool). x .1) q)))
+        (λ p. let e′ : none ≡ some c = rw p at e in some-ne-none {a = c} refl (sym e′))
+    go Found.Nothing e = some-ne-none e refl
+
+pub wrote : (sheet : List ℕ) (level flag capacity : ℕ) (out : List ℕ) → answer sheet level flag capacity ≡ written out → Wrote sheet level flag capacity out
+unfolding answer checked Option·elim
+wrote sheet level flag capacity out e =
+    by-option (called level flag) (λ p. refused-not {r = Call} (rw p) e)
+    (λ c p.
+    by-option (rowsOf sheet) (λ q. refused-not {r = Rows} (rw (p, q)) e)
+    (λ rows q.
+    by-option (firstRefusal (checks (sheetOf rows)))
+    (λ n.
+    let l = level-of level flag c p in
+    let e′ : fitted (cleaned (sheetOf rows) (c .0) (c .1)) capacity ≡ written out = rw (p, q, n) at e in
+    let f = fitted-text (cleaned (sheetOf rows) (c .0) (c .1)) capacity e′ in
     record {
-      refuses =
-          λ r e.
-          by-option (called level flag) (λ p. let e′ : some Call ≡ some r = rw p at e in let q : Call ≡ r = cc in rw (p, q))
-          (λ c p.
-          by-option (rowsOf sheet) (λ q. let e′ : some Rows ≡ some r = rw (p, q) at e in let z : Rows ≡ r = cc in rw (p, q, z))
-          (λ rows q. let e′ : firstRefusal (checks (sheetOf rows)) ≡ some r = rw (p, q) at e in rw (p, q, e′)));
-      accepts =
-          λ e.
-          by-option (called level flag) (λ p. let e′ : some Call ≡ none = rw p at e in some-ne-none refl e′)
-          (λ c p.
-          by-option (rowsOf sheet) (λ q. let e′ : some Rows ≡ none = rw (p, q) at e in some-ne-none refl e′)
-          (λ rows q. let e′ : firstRefusal (checks (sheetOf rows)) ≡ none = rw (p, q) at e in (c, rows, p, q, rw (p, q, e′))));
-    }
+      rows = rows;
+      named = c .0;
+      rows-are = q;
+      level-is = l .0;
+      pass = n;
+      text = f .0 ∙ ap (cleaned (sheetOf rows) (c .0)) (l .1);
+      fits = rw (f .0) (f .1);
+    })
+    (λ r n. refused-not {r = r} (rw (p, q, n)) e)))
 
 -- ---- as a number
 
-number-from-1 : (r : Refusal) → (n : ℕ) × (refusalNumber r ≡ suc n)
-number-from-1 Rows = (0, refl)
-number-from-1 Limits = (1, refl)
-number-from-1 Names = (2, refl)
-number-from-1 Blocks = (3, refl)
-number-from-1 Operands = (4, refl)
-number-from-1 Edits = (5, refl)
-number-from-1 Call = (6, refl)
-number-from-1 Room = (7, refl)
+outcome-refused : (a : Answer) {r : Refusal} → Outcome.Refused r ≡ asOutcome a → a ≡ refused r
+unfolding asOutcome
+outcome-refused (refused q) {r} e = let z : q ≡ r = cc in rw z
+outcome-refused (written text) e = let z : _≡_ {A = ℕ} 0 1 = cc in absurd (omega arith)
 
-module _ {w : Option Refusal} {o : Outcome} {out new : List ℕ} (k : Kept w o out new) where
-  pub number-refused : {r : Refusal} {z : ℤ} → o ≡ Outcome.Refused r → z ≡ negℤ (pos (refusalNumber r)) → KeptNumber w z out new
-  number-refused {r} {z} e f =
-      record {
-        refuses = λ q g. let h : Outcome.Refused q ≡ Outcome.Refused r = sym (k .refuses q g) ∙ e in let i : q ≡ r = cc in rw i f;
-        accepts = λ g. of-fits (k .accepts g);
-        untouched = λ n h g. k .untouched r e;
-      }
-    where
-      of-fits : Fits (length out) o → FitsNumber (length out) z
-      of-fits (room g) = let h : Outcome.Refused Room ≡ Outcome.Refused r = sym g ∙ e in let i : Room ≡ r = cc in minus-room (f ∙ ap (λ (q : Refusal). negℤ (pos (refusalNumber q))) (sym i))
-      of-fits (fits n l g) = written-ne-refused g e
+outcome-written : (a : Answer) {n : ℕ} → Outcome.Written n ≡ asOutcome a → (text : List ℕ) × (a ≡ written text) × (n ≡ length text)
+unfolding asOutcome
+outcome-written (refused q) e = let z : _≡_ {A = ℕ} 0 1 = cc in absurd (omega arith)
+outcome-written (written text) e = (text, refl, cc)
 
-  pub number-written : (m : ℕ) {n : ℕ} {z : ℤ} → o ≡ Outcome.Written n → m ≤ n → z ≡ pos m → KeptNumber w z out new
-  number-written m {n} {z} e l f =
-      record {
-        refuses = λ q g. written-ne-refused e (k .refuses q g);
-        accepts = λ g. of-fits (k .accepts g);
-        untouched = λ j h g. below j h g;
-      }
-    where
-      of-fits : Fits (length out) o → FitsNumber (length out) z
-      of-fits (room g) = written-ne-refused e g
-      of-fits (fits i h g) = let q : Outcome.Written i ≡ Outcome.Written n = sym g ∙ e in let p : i ≡ n = cc in length-fits m (omega arith) f
+-- what is written fits the buffer
+pub fits-in : (sheet : List ℕ) (level flag capacity : ℕ) {o : Outcome} {n : ℕ} → o ≡ asOutcome (answer sheet level flag capacity) → o ≡ Outcome.Written n → n ≤ capacity
+fits-in sheet level flag capacity e f =
+    let w = outcome-written (answer sheet level flag capacity) (sym f ∙ e) in
+    rw (w .2) (wrote sheet level flag capacity (w .0) (w .1) .fits)
 
-      below : (j : ℕ) → 1 ≤ j → z ≡ negℤ (pos j) → new ≡ out
-      below zero h g = absurd (omega arith)
-      below (suc j) h g = absurd (pos-ne-negsuc m j (sym f ∙ g))
+module _ (a : Answer) {o : Outcome} (e : o ≡ asOutcome a) where
+  pub number-refused : {r : Refusal} {z : ℤ} → o ≡ Outcome.Refused r → z ≡ negℤ (pos (refusalNumber r)) → z ≡ returned a
+  unfolding returned
+  number-refused f g = rw (outcome-refused a (sym f ∙ e)) g
+
+  pub number-written : {n : ℕ} {z : ℤ} → o ≡ Outcome.Written n → z ≡ pos n → z ≡ returned a
+  unfolding returned
+  number-written f g = let w = outcome-written a (sym f ∙ e) in rw (w .1) (g ∙ ap pos (w .2))

@@ -1,1 +1,3 @@
+pub mod Loading
 pub mod Call
+pub mod Theorem

@@ -3,21 +3,28 @@
 ghost use mathlib.Core.Path.{_≡_};
 ghost use mathlib.Core.Bool.{true};
 ghost use mathlib.Core.List.{List};
-ghost use mathlib.Core.Option.{none};
-ghost use Prim.Native.Nat.{ℕ, _≤_};
+ghost use mathlib.Core.Option.{none, some};
+ghost use Prim.Native.Nat.{ℕ, _*_, _≤_, _<_};
 ghost use lib.IntN.{pos, negℤ};
 ghost use lib.ListN.{length};
 ghost use Rattle.entity.specs.Forms.{refusalNumber};
-ghost use Rattle.rules.specs.Rows.{sheetOk};
+ghost use Rattle.rules.specs.Rows.{sheetOk, rowsOf};
 ghost use Rattle.rules.specs.Sheet.{sheetOf};
 ghost use Rattle.rules.specs.Accept.{withinLimits};
-ghost use Rattle.rules.specs.Answer.{firstRefusal, checks};
+ghost use Rattle.rules.specs.Forward.{Walk};
+ghost use Rattle.rules.specs.Answer.{firstRefusal, checks, output, cleaned, fitted, answer, returned, buffer};
+ghost use Rattle.table.specs.Rows.{countIn};
 ghost use Rattle.table.specs.Table.{Indexed};
-ghost use Rattle.table.specs.Index.{Built};
-ghost use Rattle.drifthurdle.specs.Call.{sheetRefusal, refusal, AnswerIs, asChecked, Kept, KeptNumber};
+ghost use Rattle.table.specs.Sheet.{sheetIn};
+ghost use Rattle.table.specs.Index.{Built, Ready};
+ghost use Rattle.table.specs.Edits.{editAtRow};
+ghost use Rattle.answer.specs.Rows.{Stands};
+ghost use Rattle.drifthurdle.specs.Call.{sheetRefusal, asChecked, TableOf, sheetAnswer, asOutcome, Gives};
+ghost use Rattle.drifthurdle.specs.Loading.{Storable, EditsLoaded, PlacesLoaded};
+ghost use Rattle.drifthurdle.specs.Theorem.{SweepIsSafeAndExact};
 use accept::blocks::blocks_hold;
+use accept::constraints::operands_hold;
 use accept::edits::edits_hold;
-use accept::operands::operands_hold;
 use answer::rows::COUNTS;
 use answer::rows::render;
 use bits::tables::read_u32;
@@ -26,10 +33,13 @@ use dead_spill_elimination::sweep::sweep_edits;
 use entity::forms::FoundLevel;
 use entity::forms::Level;
 use entity::forms::Refusal;
+use entity::numbers::EditRow;
 use move_optimizer::levels::optimise;
 use names::limits::within_limits;
 use names::names::names_hold;
 use sheet::read;
+use table::edits::sheet_edit;
+use table::edits::store_edit;
 use table::index::build;
 use table::rows::Kind;
 use table::rows::count;
@@ -69,7 +79,7 @@ fn check_ready(t: &[u32]) -> Checked
 // 2 to 6 in the table's order; the index is built once the limits hold.
 fn check(t: &mut [u32]) -> Checked
     ensures { λ c. ⌜ ((rs : List (List ℕ)) → Indexed rs (now (t .entry)) → sheetOk rs ≡ true → 56536 ≤ length (now (t .entry))
-        → c ≡ asChecked (firstRefusal (checks (sheetOf rs)))) ⌝ }
+        → (c ≡ asChecked (firstRefusal (checks (sheetOf rs)))) × (firstRefusal (checks (sheetOf rs)) ≡ none → TableOf rs (now (t .exit)))) ⌝ }
 {
     if !within_limits(t) {
         return Checked::Refused(Refusal::Limits);
@@ -80,7 +90,8 @@ fn check(t: &mut [u32]) -> Checked
 
 // 1 to 6: the sheet into the table.
 fn read_and_check(sheet: &[u8], t: &mut [u32]) -> Checked
-    ensures { λ c. ⌜ (56536 ≤ length (now (t .entry)) → c ≡ asChecked (sheetRefusal (now (sheet .entry)))) ⌝ }
+    ensures { λ c. ⌜ (56536 ≤ length (now (t .entry)) → (c ≡ asChecked (sheetRefusal (now (sheet .entry))))
+        × ((rs : List (List ℕ)) → rowsOf (now (sheet .entry)) ≡ some rs → firstRefusal (checks (sheetOf rs)) ≡ none → TableOf rs (now (t .exit)))) ⌝ }
 {
     if !read(sheet, t) {
         return Checked::Refused(Refusal::Rows);
@@ -88,25 +99,23 @@ fn read_and_check(sheet: &[u8], t: &mut [u32]) -> Checked
     check(t)
 }
 
-fn load_edit(t: &[u32], n: u32, edits: &mut [u32]) {
-    let row = row_of(t, Kind::EDIT, n);
-    let at = n as usize * 4;
-    store_u32(edits, at, read_u32(row, 2));
-    store_u32(edits, at + 1, read_u32(row, 3));
-    store_u32(edits, at + 2, read_u32(row, 4));
-    store_u32(edits, at + 3, read_u32(row, 5));
-}
-
-fn load_edits(t: &[u32], edits: &mut [u32]) {
+// The sheet's edits, each in its cells.
+fn load_edits(t: &[u32], edits: &mut [u32])
+    ensures { λ _. ⌜ (((j : ℕ) → j < countIn (now (t .entry)) 12 → Storable (editAtRow (now (t .entry)) j)) → countIn (now (t .entry)) 12 * 4 ≤ length (now (edits .entry))
+        → EditsLoaded (now (t .entry)) (now (edits .exit)) (countIn (now (t .entry)) 12)) ⌝ }
+{
     let rows = count(t, Kind::EDIT);
     let mut n: u32 = 0;
     while n < rows {
-        load_edit(t, n, edits);
+        store_edit(edits, EditRow(n), sheet_edit(t, EditRow(n)));
         n += 1;
     }
 }
 
-fn load_places(t: &[u32], places: &mut [u32]) {
+// The operands' places.
+fn load_places(t: &[u32], places: &mut [u32])
+    ensures { λ _. ⌜ (countIn (now (t .entry)) 10 ≤ length (now (places .entry)) → PlacesLoaded (now (t .entry)) (now (places .exit)) (countIn (now (t .entry)) 10)) ⌝ }
+{
     let rows = count(t, Kind::OP);
     let mut n: u32 = 0;
     while n < rows {
@@ -117,19 +126,21 @@ fn load_places(t: &[u32], places: &mut [u32]) {
 
 // The answer is measured first, and written only if it fits.
 fn fitted(t: &[u32], edits: &[u32], places: &[u32], counts: &[u32], out: &mut [u8]) -> Outcome
-    ensures { λ o. ⌜ Kept none o (now (out .entry)) (now (out .exit)) ⌝ }
+    ensures { λ o. ⌜ ((w : Walk) → Stands (now (t .entry)) (now (edits .entry)) (now (places .entry)) (now (counts .entry)) w
+        → Gives (fitted (output (sheetIn (now (t .entry))) w) (length (now (out .entry)))) o (now (out .entry)) (now (out .exit))) ⌝ }
 {
     let mut nothing = [0u8; 0];
-    let n = render(t, edits, places, counts, &mut nothing);
-    if out.len() < n {
+    let length = render(t, edits, places, counts, &mut nothing);
+    if out.len() < length {
         return Outcome::Refused(Refusal::Room);
     }
     render(t, edits, places, counts, out);
-    Outcome::Written(n)
+    Outcome::Written(length)
 }
 
 fn cleaned(t: &[u32], level: Level, swept: bool, out: &mut [u8]) -> Outcome
-    ensures { λ o. ⌜ Kept none o (now (out .entry)) (now (out .exit)) ⌝ }
+    ensures { λ o. ⌜ (Ready (now (t .entry)) → firstRefusal (checks (sheetIn (now (t .entry)))) ≡ none
+        → Gives (fitted (cleaned (sheetIn (now (t .entry))) level swept) (length (now (out .entry)))) o (now (out .entry)) (now (out .exit))) ⌝ }
 {
     let mut edits = [0u32; 4096];
     let mut places = [0u32; 2048];
@@ -145,7 +156,7 @@ fn cleaned(t: &[u32], level: Level, swept: bool, out: &mut [u8]) -> Outcome
 }
 
 fn read_and_clean(sheet: &[u8], level: Level, swept: bool, out: &mut [u8]) -> Outcome
-    ensures { λ o. ⌜ Kept (sheetRefusal (now (sheet .entry))) o (now (out .entry)) (now (out .exit)) ⌝ }
+    ensures { λ o. ⌜ Gives (sheetAnswer (now (sheet .entry)) level swept (length (now (out .entry)))) o (now (out .entry)) (now (out .exit)) ⌝ }
 {
     let mut t = [0u32; table::LENGTH];
     match read_and_check(sheet, &mut t) {
@@ -155,7 +166,8 @@ fn read_and_clean(sheet: &[u8], level: Level, swept: bool, out: &mut [u8]) -> Ou
 }
 
 pub fn clean(sheet: &[u8], level: u32, sweep: u32, out: &mut [u8]) -> Outcome
-    ensures { λ o. ⌜ Kept (refusal (now (sheet .entry)) level sweep) o (now (out .entry)) (now (out .exit)) ⌝ }
+    ensures { λ o. ⌜ (o ≡ asOutcome (answer (now (sheet .entry)) level sweep (length (now (out .entry)))))
+        × (now (out .exit) ≡ buffer (answer (now (sheet .entry)) level sweep (length (now (out .entry)))) (now (out .entry))) ⌝ }
 {
     let FoundLevel::At(l) = Level::of(level) else {
         return Outcome::Refused(Refusal::Call);
@@ -184,15 +196,16 @@ fn refused(r: Refusal) -> i64
 
 #[no_mangle]
 pub extern "C" fn drifthurdle_clean(sheet: &[u8], level: u32, sweep: u32, out: &mut [u8]) -> i64
-    ensures { λ z. ⌜ KeptNumber (refusal (now (sheet .entry)) level sweep) z (now (out .entry)) (now (out .exit)) ⌝ }
+    ensures { λ z. ⌜ (z ≡ returned (answer (now (sheet .entry)) level sweep (length (now (out .entry)))))
+        × (now (out .exit) ≡ buffer (answer (now (sheet .entry)) level sweep (length (now (out .entry)))) (now (out .entry))) ⌝ }
 {
     match clean(sheet, level, sweep, out) {
         Outcome::Refused(r) => refused(r),
-        Outcome::Written(n) => (n % 0x1_0000_0000) as i64,
+        Outcome::Written(n) => n as i64,
     }
 }
 
-// These refusals are those of `answer`, and what is not refused so `answer` answers.
-pub fn refusals_are_the_answers()
-    ensures { λ _. ⌜ ((sheet : List ℕ) (level flag capacity : ℕ) → AnswerIs sheet level flag capacity) ⌝ }
+// What the sweep does to an answer is safe and exact.
+pub fn sweep_is_safe_and_exact()
+    ensures { λ _. ⌜ SweepIsSafeAndExact ⌝ }
 {}

@@ -1,17 +1,32 @@
 // A block in either walk, and the four levels.
-use crate::edit::PREPROCESSED;
-use crate::edit::optimise_edits;
-use crate::edit::prepare_edits;
-use crate::edit::tally;
-use crate::holders::WORDS;
-use crate::holders::fill;
-use crate::inst::optimise_inst;
-use crate::inst::prepare_inst;
+ghost use mathlib.Core.Path.{_≡_};
+ghost use mathlib.Core.List.{List};
+ghost use mathlib.Core.Option.{Option·getD};
+ghost use Prim.Native.Nat.{ℕ, _+_, _<_};
+ghost use lib.ListN.{length};
+ghost use Rattle.rules.specs.Sheet.{blockCount};
+ghost use Rattle.rules.specs.Record.{fresh};
+ghost use Rattle.rules.specs.Forward.{Walk, Handed, nothing, optimiseBlock, visit, visits, mostVisits, globalStart, optimise};
+ghost use Rattle.table.specs.Sheet.{sheetIn};
+ghost use Rattle.table.specs.Index.{Ready};
+ghost use Rattle.table.specs.Edits.{editsIn};
+ghost use Rattle.record.specs.Flat.{recordIn, Long, Becomes};
+ghost use Rattle.states.specs.States.{Roomy, stateIn, Unset};
+ghost use Rattle.holders.specs.Holders.{Filled};
+ghost use Rattle.moves.specs.Walks.{Ordered, Written, Walked, entered, optimised, prepared};
+ghost use Rattle.move_optimizer.specs.Levels.{Stands, Rests};
 use entity::forms::Level;
 use entity::numbers::Block;
 use entity::numbers::Inst;
 use entity::sets::BlockSet;
 use entity::sets::FoundBlock;
+use folding::optimise_inst;
+use folding::prepare_inst;
+use graph::succs;
+use holders::WORDS;
+use holders::fill;
+use moves::optimise_edits;
+use moves::prepare_edits;
 use record::flat::LENGTH;
 use record::flat::NONE;
 use record::steps::define;
@@ -22,15 +37,18 @@ use states::handed::hand_on;
 use states::handed::take_in;
 use states::starts::forward_start;
 use states::starts::global_start;
+use table::counts::Count;
+use table::counts::tally;
 use table::index::insts_of;
 use table::index::param_rows;
 use table::rows::Kind;
 use table::rows::count;
 use table::view::param_at;
-use table::view::succs;
 
 // Each parameter row of block b defines its value at its place.
-fn enter(t: &[u32], rec: &mut [u32; LENGTH], b: Block) {
+fn enter(t: &[u32], rec: &mut [u32; LENGTH], b: Block)
+    ensures { λ _. ⌜ (Ready (now (t .entry)) → Long (now (rec .entry)) → Becomes (now (rec .entry)) (now (rec .exit)) (entered (sheetIn (now (t .entry))) (b .0) (recordIn (now (rec .entry))))) ⌝ }
+{
     let rows = param_rows(t, b);
     let to = rows.to;
     let mut n = rows.from;
@@ -51,7 +69,11 @@ fn optimise_block(
     places: &mut [u32],
     counts: &mut [u32],
     b: Block,
-) {
+)
+    ensures { λ _. ⌜ (Ordered (now (t .entry)) → Filled (sheetIn (now (t .entry))) (now (classes .entry)) → (n : ℕ) (w : Walk)
+        → Walked (now (t .entry)) (now (rec .entry)) (now (edits .entry)) (now (places .entry)) (now (counts .entry)) (n + 1572864) w
+        → Walked (now (t .entry)) (now (rec .exit)) (now (edits .exit)) (now (places .exit)) (now (counts .exit)) n (optimised (sheetIn (now (t .entry))) (b .0) w)) ⌝ }
+{
     enter(t, rec, b);
     let rows = insts_of(t, b);
     let to = rows.to;
@@ -63,8 +85,30 @@ fn optimise_block(
     }
 }
 
+// Block b in the optimising walk, with what was handed to it.
+fn optimise_handed(
+    t: &[u32],
+    rec: &mut [u32; LENGTH],
+    classes: &[u64; WORDS],
+    states: &[u32; SIZE],
+    edits: &mut [u32],
+    places: &mut [u32],
+    counts: &mut [u32],
+    b: Block,
+)
+    ensures { λ _. ⌜ (Ordered (now (t .entry)) → Filled (sheetIn (now (t .entry))) (now (classes .entry)) → Roomy (now (states .entry)) → (n : ℕ) (w : Walk)
+        → Walked (now (t .entry)) (now (rec .entry)) (now (edits .entry)) (now (places .entry)) (now (counts .entry)) (n + 1572864) w
+        → Walked (now (t .entry)) (now (rec .exit)) (now (edits .exit)) (now (places .exit)) (now (counts .exit)) n (optimiseBlock (sheetIn (now (t .entry))) (b .0) (Option·getD (stateIn (now (states .entry)) (b .0)) nothing) w)) ⌝ }
+{
+    take_in(t, rec, states, b);
+    optimise_block(t, rec, classes, edits, places, counts, b);
+}
+
 // Block b in the preparing walk.
-fn prepare_block(t: &[u32], rec: &mut [u32; LENGTH], edits: &[u32], b: Block) {
+fn prepare_block(t: &[u32], rec: &mut [u32; LENGTH], edits: &[u32], b: Block)
+    ensures { λ _. ⌜ (Ordered (now (t .entry)) → Long (now (rec .entry))
+        → Becomes (now (rec .entry)) (now (rec .exit)) (prepared (sheetIn (now (t .entry))) (b .0) (editsIn (now (edits .entry)) (length (sheetIn (now (t .entry)) .edits))) (recordIn (now (rec .entry))))) ⌝ }
+{
     enter(t, rec, b);
     let rows = insts_of(t, b);
     let to = rows.to;
@@ -76,6 +120,7 @@ fn prepare_block(t: &[u32], rec: &mut [u32; LENGTH], edits: &[u32], b: Block) {
     }
 }
 
+// Each block begins with nothing known.
 fn local(
     t: &[u32],
     rec: &mut [u32; LENGTH],
@@ -83,7 +128,11 @@ fn local(
     edits: &mut [u32],
     places: &mut [u32],
     counts: &mut [u32],
-) {
+)
+    ensures { λ _. ⌜ (Ordered (now (t .entry)) → Filled (sheetIn (now (t .entry))) (now (classes .entry)) → (n : ℕ) (w : Walk)
+        → Walked (now (t .entry)) (now (rec .entry)) (now (edits .entry)) (now (places .entry)) (now (counts .entry)) (n + 100663296) w
+        → Walked (now (t .entry)) (now (rec .exit)) (now (edits .exit)) (now (places .exit)) (now (counts .exit)) n (optimise (sheetIn (now (t .entry))) Level.Local w)) ⌝ }
+{
     let n = count(t, Kind::BLOCK);
     let mut b: u32 = 0;
     while b < n {
@@ -93,6 +142,7 @@ fn local(
     }
 }
 
+// Each block begins with what the blocks before it handed to it.
 fn forward(
     t: &[u32],
     rec: &mut [u32; LENGTH],
@@ -101,14 +151,17 @@ fn forward(
     edits: &mut [u32],
     places: &mut [u32],
     counts: &mut [u32],
-) {
+)
+    ensures { λ _. ⌜ (Ordered (now (t .entry)) → Filled (sheetIn (now (t .entry))) (now (classes .entry)) → Unset (now (states .entry)) → (n : ℕ) (w : Walk)
+        → Walked (now (t .entry)) (now (rec .entry)) (now (edits .entry)) (now (places .entry)) (now (counts .entry)) (n + 100663296) w
+        → Walked (now (t .entry)) (now (rec .exit)) (now (edits .exit)) (now (places .exit)) (now (counts .exit)) n (optimise (sheetIn (now (t .entry))) Level.Forward w)) ⌝ }
+{
     forward_start(t, states);
     let n = count(t, Kind::BLOCK);
     let mut w = BlockSet::empty();
     let mut b: u32 = 0;
     while b < n {
-        take_in(t, rec, states, Block(b));
-        optimise_block(t, rec, classes, edits, places, counts, Block(b));
+        optimise_handed(t, rec, classes, states, edits, places, counts, Block(b));
         w = hand_on(t, rec, states, w, Block(b));
         b += 1;
     }
@@ -123,14 +176,18 @@ fn visit(
     counts: &mut [u32],
     waiting: BlockSet,
     b: Block,
-) -> BlockSet {
+) -> BlockSet
+    ensures { λ r. ⌜ (Ordered (now (t .entry)) → (places : List ℕ) (n : ℕ) → b .0 < blockCount (sheetIn (now (t .entry))) → (wh : Walk × Handed)
+        → Stands (now (t .entry)) (now (rec .entry)) (now (states .entry)) (now (edits .entry)) places (now (counts .entry)) (waiting .0) (n + 1) wh
+        → Stands (now (t .entry)) (now (rec .exit)) (now (states .exit)) (now (edits .entry)) places (now (counts .exit)) (r .0) n (visit (sheetIn (now (t .entry))) wh (b .0))) ⌝ }
+{
     let w = waiting.remove(b);
     if succs(t, b).len() == 0 {
         return w;
     }
     take_in(t, rec, states, b);
     prepare_block(t, rec, edits, b);
-    tally(counts, PREPROCESSED);
+    tally(counts, Count::PREPROCESSED);
     hand_on(t, rec, states, w, b)
 }
 
@@ -142,7 +199,11 @@ fn visits(
     states: &mut [u32; SIZE],
     edits: &[u32],
     counts: &mut [u32],
-) {
+)
+    ensures { λ _. ⌜ (Ordered (now (t .entry)) → Unset (now (states .entry)) → (places : List ℕ) (n : ℕ) (w : Walk)
+        → Walked (now (t .entry)) (now (rec .entry)) (now (edits .entry)) places (now (counts .entry)) (n + 12416) w
+        → Rests (now (t .entry)) (now (rec .exit)) (now (states .exit)) (now (edits .entry)) places (now (counts .exit)) n (visits (sheetIn (now (t .entry))) (mostVisits (sheetIn (now (t .entry)))) (w, globalStart (sheetIn (now (t .entry)))))) ⌝ }
+{
     let mut w = global_start(t, states);
     let most = Block::LIMIT * (KNOWN as u32 + 2);
     let mut k: u32 = 0;
@@ -155,6 +216,7 @@ fn visits(
     }
 }
 
+// Each block begins with what the visits handed to it; the record goes on from them.
 fn global(
     t: &[u32],
     rec: &mut [u32; LENGTH],
@@ -163,24 +225,25 @@ fn global(
     edits: &mut [u32],
     places: &mut [u32],
     counts: &mut [u32],
-) {
+)
+    ensures { λ _. ⌜ (Ordered (now (t .entry)) → Filled (sheetIn (now (t .entry))) (now (classes .entry)) → Unset (now (states .entry)) → (n : ℕ) (w : Walk)
+        → Walked (now (t .entry)) (now (rec .entry)) (now (edits .entry)) (now (places .entry)) (now (counts .entry)) (n + 100675712) w
+        → Walked (now (t .entry)) (now (rec .exit)) (now (edits .exit)) (now (places .exit)) (now (counts .exit)) n (optimise (sheetIn (now (t .entry))) Level.Global w)) ⌝ }
+{
     visits(t, rec, states, edits, counts);
     let n = count(t, Kind::BLOCK);
     let mut b: u32 = 0;
     while b < n {
-        take_in(t, rec, states, Block(b));
-        optimise_block(t, rec, classes, edits, places, counts, Block(b));
+        optimise_handed(t, rec, classes, states, edits, places, counts, Block(b));
         b += 1;
     }
 }
 
-pub fn optimise(
-    t: &[u32],
-    level: Level,
-    edits: &mut [u32],
-    places: &mut [u32],
-    counts: &mut [u32],
-) {
+// The edits, places and counts after the forward rules.
+pub fn optimise(t: &[u32], level: Level, edits: &mut [u32], places: &mut [u32], counts: &mut [u32])
+    ensures { λ _. ⌜ (Ordered (now (t .entry)) → (n : ℕ) (w : Walk) → w .rec ≡ fresh → Written (now (t .entry)) (now (edits .entry)) (now (places .entry)) (now (counts .entry)) (n + 200000000) w
+        → Written (now (t .entry)) (now (edits .exit)) (now (places .exit)) (now (counts .exit)) n (optimise (sheetIn (now (t .entry))) level w)) ⌝ }
+{
     let mut classes = [0u64; WORDS];
     let mut rec = [NONE; LENGTH];
     fill(t, &mut classes);

@@ -1,6 +1,2 @@
 // The optimizer of moves: document 01's forward rules over the table of an accepted sheet. What the rules are is said in `rules`.
-mod defs;
-mod edit;
-mod holders;
-mod inst;
 pub mod levels;

@@ -36,6 +36,7 @@ use entity::numbers::Value;
 use entity::numbers::ValueGroup;
 use entity::sets::FoundBlock;
 use entity::sets::UnitSet;
+use operands::headed_by;
 use table::edits::sheet_edit;
 use table::rows::Kind;
 use table::rows::count;
@@ -486,14 +487,6 @@ fn none_twice(t: &[u32]) -> bool
         return false;
     }
     none_twice_in(t, Kind::CLOB, 2)
-}
-
-// The group is of class c and begins with register r.
-pub fn headed_by(t: &[u32], g: RegGroup, c: RegClass, r: PhysReg) -> bool
-    ensures { λ x. ⌜ x ≡ headedBy (c .0) (r .0) (groupRow (sheetIn (now (t .entry))) (g .0)) ⌝ }
-{
-    let class = group_class(t, g);
-    both(class.0 == c.0, read_u32(group_regs(t, g), 0) == r.0)
 }
 
 // No later group has the class and the first register of group g.

@@ -7,6 +7,7 @@ use Rattle.rules.specs.Accept.{withinLimits, namesHold}
 use Rattle.rules.specs.Sweep.{sweep}
 use Rattle.run.specs.Swept.{SweptRows, optimised, final}
 use Rattle.run.specs.Theorem.{SafeCall, ExactCall}
+use Rattle.run.proofs.Stand.{stand-once}
 use Rattle.run.proofs.Struck.{sweep-is}
 use Rattle.run.proofs.Theorem.{safe-rows, exact-rows}
 use Rattle.run.proofs.Within.{accepted-within}
@@ -26,5 +27,6 @@ safe-call sh level limits names =
     (safe-rows sh (optimised sh level .places) (optimised sh level .edits) (final sh level .edits) (swept-call sh level limits names))
 
 pub exact-call : ExactCall
-exact-call sh level limits names =
-    exact-rows sh (optimised sh level .places) (optimised sh level .edits) (final sh level .edits) (swept-call sh level limits names)
+exact-call sh level limits names j l =
+    let w = stand-once sh names j l in
+    (w .0, w .1, w .2, exact-rows sh (optimised sh level .places) (optimised sh level .edits) (final sh level .edits) (swept-call sh level limits names) (w .0) (w .1) j (w .2 .0))

@@ -1,10 +1,15 @@
 -- Facts on lists and on walks.
 use mathlib.Core.Path.{_≡_, refl, ap}
+use mathlib.Core.Bool.{Bool, true, false, _&&_}
 use mathlib.Core.List.{List, [], _∷_, map}
 use Prim.Native.Nat.{ℕ, zero, suc, _+_, _<_}
 use native.Mathlib.Omega.{arith}
 use lib.ListN.{length, getD, drop}
 use Rattle.laws.specs.Lists.{from}
+
+pub and-true : (a b : Bool) → a && b ≡ true → (a ≡ true) × (b ≡ true)
+and-true true b e = (refl, e)
+and-true false b e = let z : _≡_ {A = ℕ} 0 1 = cc in absurd (omega arith)
 
 pub drop-next : {T : Type 0} (l : List T) (i : ℕ) (x : T) (xs : List T) → drop i l ≡ x ∷ xs → drop (suc i) l ≡ xs
 drop-next [] zero x xs q = cc

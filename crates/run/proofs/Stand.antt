@@ -5,21 +5,24 @@
 --     in-rows, in-items, in-blocks          and it is there
 use mathlib.Core.Path.{_≡_, refl, sym, _∙_, ap}
 use mathlib.Core.Logic.{_⊎_, inl, inr, ⊎-elim, _↔_}
-use mathlib.Core.Bool.{Bool, true, false, cond}
+use mathlib.Core.Bool.{Bool, true, false, cond, _&&_}
 use mathlib.Core.List.{List, [], _∷_, _++_, map, flatMap, zip, zipWith}
 use Prim.Native.Nat.{ℕ, zero, suc, _+_, _≤_, _<_}
 use native.Mathlib.Omega.{arith}
 use lib.Dec.{eqb}
 use lib.ListN.{length, getD, drop}
 use lib.Seq.{drop-nil}
-use borrow.Author.Tests.{eqb-true, eq-eqb}
-use Rattle.laws.specs.Lists.{keep, from}
+use borrow.Author.Tests.{eqb-true, eq-eqb, ltb-true}
+use Rattle.laws.specs.Lists.{all, keep, from}
 use Rattle.laws.proofs.Cases.{by-lt}
-use Rattle.rules.specs.Sheet.{Sheet, BlockRow, EditRow, totalOf, instsFrom}
+use Rattle.rules.specs.Sheet.{Sheet, BlockRow, EditRow, totalOf, instsFrom, instCount}
+use Rattle.rules.specs.Accept.{instExists, editNames}
 use Rattle.rules.specs.Forward.{editsAt}
 use Rattle.rules.specs.Function.{Item, row, ins, items, In}
 use Rattle.run.specs.Swept.{Stands, stands, instructionOf}
 use Rattle.run.specs.Theorem.{StandOnce}
+use Rattle.run.proofs.Lists.{and-true}
+use Rattle.run.proofs.Within.{rows-named}
 
 -- ---- rows in a list of items
 
@@ -227,8 +230,16 @@ module _ (sh : Sheet) where
       let e = same-block b b′ j (drop-in j (items sh b) i r q) (drop-in j (items sh b′) i′ r′ q′) in
       (e, same-place j (items sh b) (block-fresh b) i i′ r r′ q (rw e q′))
 
+-- the instruction of an edit row exists
+all-exist : (sh : Sheet) (es : List EditRow) → all (λ x. instExists sh (x .at) && editNames sh (x .edit)) es ≡ true → (j : ℕ) → j < length es
+    → getD (map (λ x. x .at) es) j 0 < instCount sh
+unfolding all
+all-exist sh [] e j l = absurd (omega arith)
+all-exist sh (x ∷ es) e zero l = ltb-true (x .at) (instCount sh) (and-true (instExists sh (x .at)) (editNames sh (x .edit)) (and-true _ _ e .0) .0)
+all-exist sh (x ∷ es) e (suc j) l = all-exist sh es (and-true (instExists sh (x .at) && editNames sh (x .edit)) _ e .1) j (omega arith)
+
 pub stand-once : StandOnce
-stand-once sh j l a =
-    let w = in-block sh j l a in
+stand-once sh e j l =
+    let w = in-block sh j l (all-exist sh (sh .edits) (rows-named sh e .1) j l) in
     let d = in-drop j (items sh (w .0)) (w .1) in
-    (w .0, d .0, stands (d .2), λ b′ i′ x. only sh j (w .0) (d .0) b′ i′ (stands (d .2)) x)
+    (w .0, d .0, (stands (d .2), λ b′ i′ x. only sh j (w .0) (d .0) b′ i′ (stands (d .2)) x))

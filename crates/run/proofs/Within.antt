@@ -3,7 +3,8 @@
 --     WalkIn w       every slot of the walk's places, and every slot that one of its edits reads, is below the limit
 --     optimise-in    the forward rules keep that
 --     reads-within   the function of such a walk reads slots below the limit
-use mathlib.Core.Path.{_≡_, refl, sym, _∙_, ap}
+--     walk-in        the walk of an accepted sheet is such
+use mathlib.Core.Path.{_≡_, sym, _∙_, ap}
 use mathlib.Core.Logic.{_⊎_, inl, inr, ⊎-elim}
 use mathlib.Core.Bool.{Bool, true, false, cond, _&&_, _||_}
 use mathlib.Core.List.{List, [], _∷_, _++_, map, flatMap, zip, zipWith}
@@ -31,17 +32,18 @@ use Rattle.rules.specs.Record.{effect}
 use Rattle.rules.specs.Forward.{Known, Walk, Handed, withRec, count, stackUse, reloadToMove, indexed, foldTo, fold, optimiseInst, already, spilledAbove, noteSpill, removal, newSource, becomes, optimiseMove, optimiseEdit, editsAt, optimiseBlock, begun, blocks, forwardStart, forwardBlock, globalStart, visit, visits, mostVisits, optimiseAll, globalWalk, optimise, start, nothing}
 use Rattle.rules.specs.Function.{Op, edit, slotOf, Item, row, ins, items, instOf, look, funcOf, In}
 use Rattle.rules.specs.Model.{Reads}
-use Rattle.run.specs.Swept.{ReadsWithin}
+use Rattle.run.specs.Swept.{ReadsWithin, optimised}
 use Rattle.run.specs.Theorem.{AcceptedWithin}
+use Rattle.run.proofs.Lists.{and-true}
 use Rattle.run.proofs.Rows.{ops-look}
 
-abbrev PlaceIn : Place → Type 0
+abbrev pub PlaceIn : Place → Type 0
 PlaceIn p = (s : ℕ) → In s (slotOf p) → s < slotLimit
 
-abbrev EditIn : Edit → Type 0
+abbrev pub EditIn : Edit → Type 0
 EditIn e = (s : ℕ) → Reads (edit e) s → s < slotLimit
 
-abbrev WalkIn : Walk → Type 0
+abbrev pub WalkIn : Walk → Type 0
 WalkIn w = ((k : ℕ) (p : Place) → PlaceIn p → PlaceIn (getD (w .places) k p)) × ((j : ℕ) → EditIn (getD (w .edits) j Nothing))
 
 -- ---- what is kept by a store, by a loop, by a choice
@@ -159,10 +161,6 @@ module _ (sh : Sheet) where
       all-in (begun sh (wh .1)) (wh .0) (visits-in (mostVisits sh) (w, globalStart sh) v)
 
 -- ---- an accepted sheet
-
-and-true : (a b : Bool) → a && b ≡ true → (a ≡ true) × (b ≡ true)
-and-true true b e = (refl, e)
-and-true false b e = let z : _≡_ {A = ℕ} 0 1 = cc in absurd (omega arith)
 
 -- Q of each
 abbrev Each : {A : Type 0} → (A → Type 0) → List A → Type 0
@@ -282,15 +280,31 @@ and-last a b c d e =
     let w = and-true (a && b && c) d e in
     (and-true a b (and-true (a && b) c (w .0) .0) .1, w .1)
 
-pub accepted-within : AcceptedWithin
-unfolding withinLimits namesHold allNamed start
-accepted-within sh level limits names =
+-- 3, of the rows of the operands and of the edits
+pub rows-named : (sh : Sheet) → namesHold sh ≡ true
+    → (all (λ o. instExists sh (o .at) && subjectExists sh (o .kind) && constraintExists sh (o .constraint) && placeExists sh (o .place)) (sh .ops) ≡ true)
+    × (all (λ e. instExists sh (e .at) && editNames sh (e .edit)) (sh .edits) ≡ true)
+unfolding namesHold allNamed
+rows-named sh names =
+    and-last (before sh) _ _ _ (and-true (allNamed sh) (noneTwice sh) (and-true (allNamed sh && noneTwice sh) (headsApart (sh .groups)) names .0) .0)
+
+-- the operands of an accepted sheet, and its walk after the forward rules
+both-in : (sh : Sheet) (level : Level) → withinLimits sh ≡ true → namesHold sh ≡ true
+    → (few : sh .slots ≤ slotLimit) × Each (OpIn sh few) (sh .ops) × WalkIn (optimised sh level)
+unfolding withinLimits start
+both-in sh level limits names =
     let few : sh .slots ≤ slotLimit =
     by-bool (leb (sh .slots) slotLimit) (leb-true (sh .slots) slotLimit)
     (λ e. let y : false ≡ true = rw e at limits in let z : _≡_ {A = ℕ} 0 1 = cc in absurd (omega arith)) in
-    let named = and-true (allNamed sh) (noneTwice sh) (and-true (allNamed sh && noneTwice sh) (headsApart (sh .groups)) names .0) .0 in
-    let w = and-last (before sh) _ _ _ named in
+    let w = rows-named sh names in
     let edits = edits-in sh few (sh .edits) (w .1) in
     let rows = rows-in sh few (sh .ops) (w .0) in
-    let v = optimise-in sh level (start sh) (places-in sh few (sh .ops) rows, edits) in
-    reads-within sh few rows (optimise sh level (start sh) .places) (optimise sh level (start sh) .edits) (v .0) (v .1)
+    (few, rows, optimise-in sh level (start sh) (places-in sh few (sh .ops) rows, edits))
+
+pub walk-in : (sh : Sheet) (level : Level) → withinLimits sh ≡ true → namesHold sh ≡ true → WalkIn (optimised sh level)
+walk-in sh level limits names = both-in sh level limits names .2
+
+pub accepted-within : AcceptedWithin
+accepted-within sh level limits names =
+    let w = both-in sh level limits names in
+    reads-within sh (w .0) (w .1) (optimised sh level .places) (optimised sh level .edits) (w .2 .0) (w .2 .1)

@@ -37,6 +37,10 @@ Removed o o′ = (o ≡ edit Nothing → ⊥) × (o′ ≡ edit Nothing)
 pub data Stands (sh : Sheet) (b i j : ℕ) : Type 0 where
   stands : {l : List Item} → drop i (items sh b) ≡ row j ∷ l → Stands sh b i j
 
+-- and nowhere else
+abbrev pub StandsOnce : Sheet → ℕ → ℕ → ℕ → Type 0
+StandsOnce sh b i j = Stands sh b i j × ((b′ i′ : ℕ) → Stands sh b′ i′ j → (b ≡ b′) × (i ≡ i′))
+
 -- the instruction that row j of the edits is at
 abbrev pub instructionOf : Sheet → ℕ → ℕ
 instructionOf sh j = getD (map (λ e. e .at) (sh .edits)) j 0

@@ -10,14 +10,14 @@ use Rattle.entity.specs.declared.forms.Place.{Place}
 use Rattle.entity.specs.declared.forms.Edit.{Edit}
 use Rattle.entity.specs.declared.forms.Edit.the-variants.{Nothing}
 use Rattle.entity.specs.declared.forms.Level.{Level}
-use Rattle.rules.specs.Sheet.{Sheet, instCount}
+use Rattle.rules.specs.Sheet.{Sheet}
 use Rattle.rules.specs.Accept.{withinLimits, namesHold}
 use Rattle.rules.specs.Forward.{Walk}
 use Rattle.rules.specs.Function.{Inst, Op, edit, inst, Func, funcOf, In, Left, IsWalk, along}
 use Rattle.rules.specs.Sweep.{Wanted, Into, wantedAt, ends, strikeBlocks, sweep}
 use Rattle.rules.specs.Brought.{BroughtOn}
 use Rattle.rules.specs.Model.{State, Machine, step, steps, Agree}
-use Rattle.run.specs.Swept.{Swept, Removed, SweptRows, Stands, instructionOf, MadeNone, AreEnds, ReadsWithin, optimised, final, walked, UnitIn}
+use Rattle.run.specs.Swept.{Swept, Removed, SweptRows, Stands, StandsOnce, MadeNone, AreEnds, ReadsWithin, optimised, final, walked, UnitIn}
 
 -- For every machine, walk and start, in the runs with the operations before and after the sweep: at each step all registers agree, and every slot
 -- that an instruction or a kept edit reads there.
@@ -41,13 +41,17 @@ SafeRows =
     (M : Machine) (w : List ℕ) → IsWalk (funcOf sh places es) w → (st : State) →
     Agree (steps M (along (funcOf sh places es) w) st) (steps M (along (funcOf sh places es′) w) st)
 
--- `Exact` on a sheet's rows
-abbrev pub ExactRows : Type 0
-ExactRows =
-    (sh : Sheet) (places : List Place) (es es′ : List Edit) → SweptRows sh places es es′ → (b i j : ℕ) → Stands sh b i j →
+-- `Exact` of one row of the edits es, which stands at position i of block b: es′ has `none` for it exactly when it is a move or remat into a slot
+-- whose content is not brought on after it, and otherwise has it as it was
+abbrev pub ExactRow : Sheet → List Place → List Edit → List Edit → ℕ → ℕ → ℕ → Type 0
+ExactRow sh places es es′ b i j =
     (MadeNone (getD es j Nothing) (getD es′ j Nothing)
     ↔ ((s : ℕ) × Into (edit (getD es j Nothing)) s × (BroughtOn (funcOf sh places es) b (suc i) s → ⊥)))
     × ((MadeNone (getD es j Nothing) (getD es′ j Nothing) → ⊥) → getD es′ j Nothing ≡ getD es j Nothing)
+
+-- `Exact` on a sheet's rows
+abbrev pub ExactRows : Type 0
+ExactRows = (sh : Sheet) (places : List Place) (es es′ : List Edit) → SweptRows sh places es es′ → (b i j : ℕ) → Stands sh b i j → ExactRow sh places es es′ b i j
 
 -- `Once` on a sheet's rows
 abbrev pub OnceRows : Type 0
@@ -55,11 +59,9 @@ OnceRows =
     (sh : Sheet) (places : List Place) (es es′ es″ : List Edit) → SweptRows sh places es es′ → SweptRows sh places es es″ →
     (b i j : ℕ) → Stands sh b i j → getD es′ j Nothing ≡ getD es″ j Nothing
 
--- An edit row of an instruction that exists stands at one position.
+-- Every edit row stands at one position. (Refusal 3 gives that its instruction exists.)
 abbrev pub StandOnce : Type 0
-StandOnce =
-    (sh : Sheet) (j : ℕ) → j < length (sh .edits) → instructionOf sh j < instCount sh →
-    (b : ℕ) × (i : ℕ) × Stands sh b i j × ((b′ i′ : ℕ) → Stands sh b′ i′ j → (b ≡ b′) × (i ≡ i′))
+StandOnce = (sh : Sheet) → namesHold sh ≡ true → (j : ℕ) → j < length (sh .edits) → (b : ℕ) × (i : ℕ) × StandsOnce sh b i j
 
 -- From lists that are the slots wanted at the ends, the lists computed backward are the slots wanted at each position.
 abbrev pub WantedComputed : Type 0
@@ -100,14 +102,11 @@ SafeCall =
     (M : Machine) (w : List ℕ) → IsWalk (walked sh (optimised sh level)) w → (st : State) →
     Agree (steps M (along (walked sh (optimised sh level)) w) st) (steps M (along (walked sh (final sh level)) w) st)
 
--- and `Exact`
+-- and `Exact`, of every edit row, at the one position where it stands
 abbrev pub ExactCall : Type 0
 ExactCall =
-    (sh : Sheet) (level : Level) → withinLimits sh ≡ true → namesHold sh ≡ true → (b i j : ℕ) → Stands sh b i j →
-    (MadeNone (getD (optimised sh level .edits) j Nothing) (getD (final sh level .edits) j Nothing)
-    ↔ ((s : ℕ) × Into (edit (getD (optimised sh level .edits) j Nothing)) s × (BroughtOn (walked sh (optimised sh level)) b (suc i) s → ⊥)))
-    × ((MadeNone (getD (optimised sh level .edits) j Nothing) (getD (final sh level .edits) j Nothing) → ⊥) →
-    getD (final sh level .edits) j Nothing ≡ getD (optimised sh level .edits) j Nothing)
+    (sh : Sheet) (level : Level) → withinLimits sh ≡ true → namesHold sh ≡ true → (j : ℕ) → j < length (sh .edits) →
+    (b : ℕ) × (i : ℕ) × StandsOnce sh b i j × ExactRow sh (optimised sh level .places) (optimised sh level .edits) (final sh level .edits) b i j
 
 -- A clobbered unit that no operand defines holds the supply's word afterwards.
 abbrev pub Clobbers : Type 0

@@ -18,6 +18,7 @@ use entity::numbers::PhysReg;
 use entity::numbers::SpillSlot;
 use entity::numbers::Value;
 use entity::sets::BlockSet;
+use graph::succs;
 use record::flat::HELD;
 use record::flat::LENGTH;
 use record::flat::NONE;
@@ -26,7 +27,6 @@ use record::flat::held;
 use record::steps::write_units;
 use table::rows::Kind;
 use table::rows::count;
-use table::view::succs;
 use table::view::units;
 
 // How many numbers a state has.

@@ -16,10 +16,10 @@ use crate::handed::SIZE;
 use crate::handed::set_nothing;
 use entity::numbers::Block;
 use entity::sets::BlockSet;
+use graph::preds;
 use table::rows::Kind;
 use table::rows::count;
 use table::view::is_entry;
-use table::view::preds;
 
 // Some predecessor is not smaller than block b.
 fn some_later(ps: &[u32], b: Block) -> bool

@@ -222,11 +222,5 @@ module _ {t : List ℕ} (g : Ready t) where
 
 -- the three lists, by what the code hands on
 module _ (t l : List ℕ) (r : Range) (x : ℕ) where
-  pub succs-by : r ≡ rangeIn t 54712 blockLimit x → l ≡ cond (ltb (r .from) (r .to)) (drop 2 (kindRow t 7 (r .from))) [] → Ready t → l ≡ succsOf (sheetIn t) x
-  succs-by e p g = p ∙ ap (λ (r : Range). cond (ltb (r .from) (r .to)) (drop 2 (kindRow t 7 (r .from))) []) e ∙ succs-of g x
-
-  pub preds-by : r ≡ rangeIn t 54792 blockLimit x → l ≡ cond (ltb (r .from) (r .to)) (drop 2 (kindRow t 8 (r .from))) [] → Ready t → l ≡ predsOf (sheetIn t) x
-  preds-by e p g = p ∙ ap (λ (r : Range). cond (ltb (r .from) (r .to)) (drop 2 (kindRow t 8 (r .from))) []) e ∙ preds-of g x
-
   pub clobbers-by : r ≡ rangeIn t 55480 instLimit x → l ≡ cond (ltb (r .from) (r .to)) (drop 2 (kindRow t 11 (r .from))) [] → Ready t → l ≡ clobbersOf (sheetIn t) x
   clobbers-by e p g = p ∙ ap (λ (r : Range). cond (ltb (r .from) (r .to)) (drop 2 (kindRow t 11 (r .from))) []) e ∙ clobbers-of g x

@@ -4,6 +4,7 @@
 --     read-back       the edit of the cells of an edit is the edit
 --     edits-length, edits-at, edits-with      the first n edits of cells
 --     places-length, places-at                the first n places
+--     cells-same, cells-other, cells-with     cells that are an edit row's stay so when an edit is stored
 --     sheet-edit-is   row n of the sheet's edits
 use mathlib.Core.Path.{_≡_, refl, sym, _∙_, ap, ap₂, subst}
 use mathlib.Core.Bool.{true}
@@ -29,6 +30,7 @@ use Rattle.rules.specs.Accept.{placed}
 use Rattle.rules.specs.Answer.{placeCell, editCells}
 use Rattle.table.specs.Edits.{editIn, editsIn, withEdit, placeIn, placesIn, editAtRow, SmallPlace, SmallEdit}
 use Rattle.table.specs.Sheet.{sheetIn}
+use Rattle.table.specs.Written.{fourIn, SmallValue, EditCells}
 use Rattle.table.proofs.Sheets.{members-long, members-at, edits-are, part-of}
 
 -- ---- an edit by the word of its kind
@@ -217,6 +219,52 @@ module _ (cells : List ℕ) where
         by-eq i j
         (λ q. rw q (rw q at (at w n i l′) ∙ with-same h b ∙ sym (getD-set-same (editsIn cells n) j e Nothing (omega arith))))
         (λ q. at w n i l′ ∙ with-other i q ∙ sym (getD-set-other (editsIn cells n) j i e Nothing q ∙ edits-at n i Nothing l′)))
+
+-- ---- cells that are an edit row's stay so
+
+-- the four cells of an edit
+four-of : (e : Edit) → getD (editCells e) 0 0 ∷ getD (editCells e) 1 0 ∷ getD (editCells e) 2 0 ∷ getD (editCells e) 3 0 ∷ [] ≡ editCells e
+unfolding editCells
+four-of (Move to p v) = refl
+four-of (Remat to v) = refl
+four-of (Espill s r) = refl
+four-of (Ereload r s) = refl
+four-of (Misplaced to p) = refl
+four-of Nothing = refl
+
+module _ (cells : List ℕ) (j : ℕ) (e : Edit) where
+  four-with : j * 4 + 3 < length cells → fourIn (withEdit cells j e) j ≡ editCells e
+  unfolding fourIn withEdit
+  four-with h =
+      let cs : List ℕ = editCells e in
+      let f = four cells (j * 4) (getD cs 0 0) (getD cs 1 0) (getD cs 2 0) (getD cs 3 0) h in
+      rw (f .0, f .1, f .2, f .3) (four-of e)
+
+  four-other : (i : ℕ) → (i ≡ j → ⊥) → fourIn (withEdit cells j e) i ≡ fourIn cells i
+  unfolding fourIn withEdit
+  four-other i n =
+      let cs : List ℕ = editCells e in
+      let o = none-of cells (j * 4) (getD cs 0 0) (getD cs 1 0) (getD cs 2 0) (getD cs 3 0) in
+      rw (
+        o (i * 4) (λ k l q. n (omega arith)),
+        o (i * 4 + 1) (λ k l q. n (omega arith)),
+        o (i * 4 + 2) (λ k l q. n (omega arith)),
+        o (i * 4 + 3) (λ k l q. n (omega arith)),
+      )
+
+  pub cells-same : j * 4 + 3 < length cells → placed e ≡ true → SmallEdit e → SmallValue e → EditCells (withEdit cells j e) j
+  cells-same h p s v =
+      let b : editIn (withEdit cells j e) j ≡ e = with-same cells j e h (read-back e p s) in
+      record { kept = rw b (four-with h); small = rw b s; value = rw b v }
+
+  pub cells-other : (i : ℕ) → (i ≡ j → ⊥) → EditCells cells i → EditCells (withEdit cells j e) i
+  cells-other i n c =
+      let b : editIn (withEdit cells j e) i ≡ editIn cells i = with-other cells j e i n in
+      record { kept = rw b (four-other i n ∙ c .kept); small = rw b (c .small); value = rw b (c .value) }
+
+  -- and so of all, where e has small numbers
+  pub cells-with : (i : ℕ) → i * 4 + 3 < length cells → placed e ≡ true → SmallEdit e → SmallValue e → EditCells cells i → EditCells (withEdit cells j e) i
+  cells-with i h p s v c = by-eq i j (λ q. rw q (cells-same (rw q at h) p s v)) (λ q. cells-other i q c)
 
 -- ---- the edits that the sheet says
 

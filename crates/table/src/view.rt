@@ -4,20 +4,18 @@ ghost use mathlib.Core.Bool.{cond};
 ghost use mathlib.Core.List.{[]};
 ghost use lib.Dec.{ltb};
 ghost use lib.ListN.{drop};
-ghost use Prim.Native.Nat.{_-_};
-ghost use Rattle.rules.specs.Sheet.{placeOf, constraintOf, kindOf, unitsOf, isMemory, classRow, homeOf, valuesOf, blockRow, succsOf, predsOf, clobbersOf};
+ghost use Rattle.rules.specs.Sheet.{placeOf, constraintOf, kindOf, unitsOf, isMemory, classRow, homeOf, valuesOf, blockRow, clobbersOf};
 ghost use Rattle.table.specs.Rows.{kindRow};
 ghost use Rattle.table.specs.Sheet.{sheetIn};
 ghost use Rattle.table.specs.Index.{Ready};
 ghost use Rattle.table.specs.View.{groupRow, paramRow, opRow, editRow, slotFound, blockFound, paramOf, operandOf};
 use crate::index::Range;
 use crate::index::clob_rows;
-use crate::index::pred_rows;
-use crate::index::succ_rows;
 use crate::rows::Kind;
 use crate::rows::count;
 use crate::rows::rest;
 use crate::rows::row_of;
+use bits::numbers::less;
 use bits::tables::read_u32;
 use entity::forms::Constraint;
 use entity::forms::OperandKind;
@@ -139,29 +137,10 @@ fn list(t: &[u32], k: Kind, rows: Range) -> &[u32]
     &t[0..0]
 }
 
-pub fn succs(t: &[u32], b: Block) -> &[u32]
-    ensures { λ x. ⌜ (Ready (now (t .entry)) → now x ≡ succsOf (sheetIn (now (t .entry))) (b .0)) ⌝ }
-{
-    list(t, Kind::SUCC, succ_rows(t, b))
-}
-
-pub fn preds(t: &[u32], b: Block) -> &[u32]
-    ensures { λ x. ⌜ (Ready (now (t .entry)) → now x ≡ predsOf (sheetIn (now (t .entry))) (b .0)) ⌝ }
-{
-    list(t, Kind::PRED, pred_rows(t, b))
-}
-
 pub fn clobbers(t: &[u32], i: Inst) -> &[u32]
     ensures { λ x. ⌜ (Ready (now (t .entry)) → now x ≡ clobbersOf (sheetIn (now (t .entry))) (i .0)) ⌝ }
 {
     list(t, Kind::CLOB, clob_rows(t, i))
-}
-
-// A number less what a mark adds to it.
-fn less(c: u32, mark: u32) -> u32
-    ensures { λ r. ⌜ r ≡ c - mark ⌝ }
-{
-    if mark <= c { c - mark } else { 0 }
 }
 
 pub fn place_of(c: u32) -> Place

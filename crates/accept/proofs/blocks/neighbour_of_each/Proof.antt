@@ -1,6 +1,6 @@
 use Rattle.accept.proofs.Walks.{each-stop, each-go, each-done}
 use borrow.Author.Tests.{not-true, not-false}
-use Rattle.accept.specs.Graph.{chosen}
+use Rattle.graph.specs.Graph.{chosen}
 use Rattle.rules.specs.Sheet.{succsOf, predsOf}
 use Rattle.table.specs.Sheet.{sheetIn}
 use Rattle.table.specs.Index.{Ready}

@@ -1,50 +1,21 @@
+-- `move_optimizer::levels::enter` meets its contract. The invariant: what remains of the rows gives the same record. Assumes nothing.
 use borrow.Author.Needs.{needs}
-use Prim.Native.Nat.{_≤_, _-_}
+use Prim.Native.Nat.{_-_}
+use Rattle.laws.specs.Fold.{run}
+use Rattle.laws.specs.Lists.{from}
+use Rattle.table.specs.Index.{Ready}
+use Rattle.record.specs.Flat.{Long, recordIn}
+use Rattle.record.proofs.Changes.{becomes-same}
+use Rattle.move_optimizer.proofs.Levelling.{Passing, passing-start, Became, defines, entered-next, entered-end}
 use Rattle.move_optimizer.proofs.levels.enter.Statement.{statement}
 use Rattle.move_optimizer.proofs.levels.enter.Tie as tie
-use Rattle.move_optimizer.proofs.levels.enter.Reads as reads
-use Rattle.move_optimizer.proofs.levels.enter.Lts as lts
-use Rattle.record.proofs.steps.define.Reads as define-reads
-use Rattle.table.proofs.index.param_rows.Reads as param-rows-reads
-use Rattle.table.proofs.view.param_at.Reads as param-at-reads
 
 abbrev Inv-loop : tie.InvT-loop
-Inv-loop t rec₀ b to n₀ rec n = 0 ≤ n
+Inv-loop t rec₀ b to n₀ rec n =
+    Ready t → Long rec₀ → Passing (Became rec₀ rec) (defines t (b .0)) 0 0 n to (run (defines t (b .0)) (recordIn rec₀) (from n₀ (to - n₀)))
 
 abbrev μ-loop : tie.MeasureT-loop
 μ-loop t rec₀ b to n₀ rec n = to - n
-
--- src/levels.rt:35:9
-param-rows-requires : tie.Need-param-rows-requires Inv-loop μ-loop
-param-rows-requires c κs = search needs
-
--- src/levels.rt:38:5
-loop-holds : tie.Need-loop-holds Inv-loop μ-loop
-loop-holds c = search needs
-
--- src/levels.rt:39:13
-param-at-requires : tie.Need-param-at-requires Inv-loop μ-loop
-param-at-requires c κs = search needs
-
--- src/levels.rt:41:9
-define-requires : tie.Need-define-requires Inv-loop μ-loop
-define-requires c κs = search needs
-
--- src/levels.rt:42:9
-add-n : tie.Need-add-n Inv-loop μ-loop
-add-n c = search needs
-
--- src/levels.rt:38:5
-loop-less : tie.Need-loop-less Inv-loop μ-loop
-loop-less c = search needs
-
--- src/levels.rt:38:5
-loop-again : tie.Need-loop-again Inv-loop μ-loop
-loop-again c = search needs
-
--- src/levels.rt:34:1
-returns : tie.Need-returns Inv-loop μ-loop
-returns c = search needs
 
 pub enter-spec : {M : Type 1} → statement M
 enter-spec =
@@ -52,11 +23,12 @@ enter-spec =
     (tie.spec
     Inv-loop
     μ-loop
-    param-rows-requires
-    loop-holds
-    param-at-requires
-    define-requires
-    add-n
-    loop-less
-    loop-again
-    returns)
+    (λ c κs. search needs)
+    (λ c g l. passing-start _ 0 0 _ _ _ (becomes-same _))
+    (λ c κs. search needs)
+    (λ c κs. search needs)
+    (λ c. search needs)
+    (λ c. search needs)
+    (λ c. entered-next _ _ (c .before .before .param-at .ensures) (c .before .before .before .loop-test .taken) (c .define .ensures)
+    (c .before .before .before .before .loop .inv))
+    (λ c. entered-end _ _ (c .before .before .param-rows .ensures) (c .loop-test .left) (c .before .loop .inv)))

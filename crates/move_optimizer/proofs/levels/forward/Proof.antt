@@ -1,81 +1,28 @@
-use mathlib.Core.Path.{_≡_}
-use lib.ListN.{length}
-use Prim.Native.Nat.{_-_}
-use mathlib.Core.Path.{refl}
-use native.Mathlib.Omega.{arith}
+-- `move_optimizer::levels::forward` meets its contract. The invariant: what remains of the blocks gives the same walk. Assumes nothing.
 use borrow.Author.Needs.{needs}
+use mathlib.Core.Path.{_≡_, refl}
+use Prim.Native.Nat.{ℕ, _+_, _-_, _*_}
+use lib.ListN.{length}
+use Rattle.laws.specs.Fold.{run}
+use Rattle.laws.specs.Lists.{from}
+use Rattle.rules.specs.Forward.{Walk, Handed, forwardBlock, forwardStart}
+use Rattle.table.specs.Sheet.{sheetIn}
+use Rattle.holders.specs.Holders.{Filled}
+use Rattle.moves.specs.Walks.{Ordered}
+use Rattle.move_optimizer.specs.Levels.{Stands}
+use Rattle.move_optimizer.proofs.Levelling.{Passing, passing-start}
+use Rattle.move_optimizer.proofs.Handing.{blocks-counted, forward-begin, forward-next, forward-end}
 use Rattle.move_optimizer.proofs.levels.forward.Statement.{statement}
 use Rattle.move_optimizer.proofs.levels.forward.Tie as tie
-use Rattle.move_optimizer.proofs.levels.forward.Reads as reads
-use Rattle.move_optimizer.proofs.levels.forward.Lts as lts
-use Rattle.entity.proofs.sets.BlockSet.empty.Reads as empty-reads
-use Rattle.states.proofs.starts.forward_start.Reads as forward-start-reads
-use Rattle.move_optimizer.proofs.levels.optimise_block.Reads as optimise-block-reads
-use Rattle.states.proofs.handed.hand_on.Reads as hand-on-reads
-use Rattle.states.proofs.handed.take_in.Reads as take-in-reads
-use Rattle.table.proofs.rows.count.Reads as count-reads
 
 abbrev Inv-loop : tie.InvT-loop
-Inv-loop t rec₀ classes states₀ edits₀ places₀ counts₀ n w₀ b₀ rec states edits places counts w b = (length edits ≡ length edits₀) × (length places ≡ length places₀) × (length counts ≡ length counts₀)
+Inv-loop t rec₀ classes states₀ edits₀ places₀ counts₀ n w₀ b₀ rec states edits places counts w b =
+    (length edits ≡ length edits₀) × (length places ≡ length places₀) × (length counts ≡ length counts₀)
+    × (Ordered t → Filled (sheetIn t) classes → (m : ℕ) (x : Walk × Handed) → Stands t rec₀ states₀ edits₀ places₀ counts₀ (w₀ .0) (m + 1572864 * (n - b₀)) x
+    → Passing (Stands t rec states edits places counts (w .0)) (forwardBlock (sheetIn t)) 1572864 m b n (run (forwardBlock (sheetIn t)) x (from b₀ (n - b₀))))
 
 abbrev μ-loop : tie.MeasureT-loop
 μ-loop t rec₀ classes states₀ edits₀ places₀ counts₀ n w₀ b₀ rec states edits places counts w b = n - b
-
--- src/levels.rt:141:5
-forward-start-requires : tie.Need-forward-start-requires Inv-loop μ-loop
-forward-start-requires c κs = search needs
-
--- src/levels.rt:142:9
-count-requires : tie.Need-count-requires Inv-loop μ-loop
-count-requires c κs = search needs
-
--- src/levels.rt:143:9
-empty-requires : tie.Need-empty-requires Inv-loop μ-loop
-empty-requires c κs = search needs
-
--- src/levels.rt:145:5
-loop-holds : tie.Need-loop-holds Inv-loop μ-loop
-loop-holds c = search needs
-
--- src/levels.rt:146:9
-take-in-requires : tie.Need-take-in-requires Inv-loop μ-loop
-take-in-requires c κs = search needs
-
--- src/levels.rt:147:9
-optimise-block-requires : tie.Need-optimise-block-requires Inv-loop μ-loop
-optimise-block-requires c κs = search needs
-
--- src/levels.rt:148:9
-hand-on-requires : tie.Need-hand-on-requires Inv-loop μ-loop
-hand-on-requires c κs = search needs
-
--- src/levels.rt:149:9
-add-b : tie.Need-add-b Inv-loop μ-loop
-add-b c = search needs
-
--- src/levels.rt:145:5
-loop-less : tie.Need-loop-less Inv-loop μ-loop
-loop-less c = search needs
-
--- src/levels.rt:145:5
-loop-again : tie.Need-loop-again Inv-loop μ-loop
-loop-again c = search needs
-
--- src/levels.rt:132:1
-same-length : tie.Need-same-length Inv-loop μ-loop
-same-length c = search needs
-
--- src/levels.rt:132:1
-same-length-2 : tie.Need-same-length-2 Inv-loop μ-loop
-same-length-2 c = search needs
-
--- src/levels.rt:132:1
-same-length-3 : tie.Need-same-length-3 Inv-loop μ-loop
-same-length-3 c = search needs
-
--- src/levels.rt:132:1
-returns : tie.Need-returns Inv-loop μ-loop
-returns c = search needs
 
 pub forward-spec : {M : Type 1} → statement M
 forward-spec =
@@ -83,17 +30,26 @@ forward-spec =
     (tie.spec
     Inv-loop
     μ-loop
-    forward-start-requires
-    count-requires
-    empty-requires
-    loop-holds
-    take-in-requires
-    optimise-block-requires
-    hand-on-requires
-    add-b
-    loop-less
-    loop-again
-    same-length
-    same-length-2
-    same-length-3
-    returns)
+    (λ c κs. search needs)
+    (λ c κs. search needs)
+    (λ c κs. search needs)
+    (λ c. (refl, refl, refl, λ o f m x y. passing-start _ _ _ _ _ x y))
+    (λ c κs. search needs)
+    (λ c κs. search needs)
+    (λ c. search needs)
+    (λ c. search needs)
+    (λ c. (
+      search needs,
+      search needs,
+      search needs,
+      λ o f m x y. forward-next (c .before .before .before .before .before .before .before .before .before .before .before .before .before .before .before .loop-test .taken)
+          (blocks-counted _ (c .before .before .before .before .before .before .before .before .before .before .before .before .before .before .before .before .before .before .count .ensures))
+          (c .before .before .before .before .before .before .before .before .before .optimise-handed .ensures o f) (c .hand-on .ensures (o .ready))
+          (c .before .before .before .before .before .before .before .before .before .before .before .before .before .before .before .before .loop .inv .3 o f m x y),
+    ))
+    (λ c. search needs)
+    (λ c. search needs)
+    (λ c. search needs)
+    (λ c o f u n w x. forward-end w (blocks-counted _ (c .before .before .before .count .ensures)) (c .loop-test .left)
+    (c .before .loop .inv .3 o f n (w, forwardStart _) (forward-begin (o .ready) (blocks-counted _ (c .before .before .before .count .ensures))
+    (c .before .before .before .before .forward-start .ensures (o .ready) u _ (c .before .before .empty .ensures)) n w x))))

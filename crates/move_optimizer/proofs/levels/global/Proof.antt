@@ -1,69 +1,30 @@
+-- `move_optimizer::levels::global` meets its contract. The invariant: what remains of the blocks gives the same walk. Assumes nothing.
 use borrow.Author.Needs.{needs}
-use mathlib.Core.Path.{_≡_}
+use mathlib.Core.Path.{_≡_, refl}
+use Prim.Native.Nat.{ℕ, _+_, _-_, _*_}
 use lib.ListN.{length}
-use Prim.Native.Nat.{_-_}
+use Rattle.laws.specs.Fold.{run}
+use Rattle.laws.specs.Lists.{from}
+use Rattle.rules.specs.Forward.{Walk, Handed, begun}
+use Rattle.rules.specs.Sheet.{blockCount}
+use Rattle.table.specs.Sheet.{sheetIn}
+use Rattle.states.specs.States.{Roomy, statesIn}
+use Rattle.holders.specs.Holders.{Filled}
+use Rattle.moves.specs.Walks.{Ordered, Walked}
+use Rattle.move_optimizer.proofs.Levelling.{Passing, passing-start}
+use Rattle.move_optimizer.proofs.Handing.{blockwise, blocks-counted, block-begun, block-next, spent, global-end}
 use Rattle.move_optimizer.proofs.levels.global.Statement.{statement}
 use Rattle.move_optimizer.proofs.levels.global.Tie as tie
-use Rattle.move_optimizer.proofs.levels.global.Reads as reads
-use Rattle.move_optimizer.proofs.levels.global.Lts as lts
-use Rattle.move_optimizer.proofs.levels.optimise_block.Reads as optimise-block-reads
-use Rattle.move_optimizer.proofs.levels.visits.Reads as visits-reads
-use Rattle.states.proofs.handed.take_in.Reads as take-in-reads
-use Rattle.table.proofs.rows.count.Reads as count-reads
 
 abbrev Inv-loop : tie.InvT-loop
-Inv-loop t rec₀ classes states edits₀ places₀ counts₀ n b₀ rec edits places counts b = (length edits ≡ length edits₀) × (length places ≡ length places₀) × (length counts ≡ length counts₀)
+Inv-loop t rec₀ classes states edits₀ places₀ counts₀ n b₀ rec edits places counts b =
+    (length edits ≡ length edits₀) × (length places ≡ length places₀) × (length counts ≡ length counts₀)
+    × (Ordered t → Filled (sheetIn t) classes → (h : Handed) → Roomy states → statesIn states (blockCount (sheetIn t)) ≡ h .states → (m : ℕ) (w : Walk)
+    → Walked t rec₀ edits₀ places₀ counts₀ (m + 1572864 * (n - b₀)) w
+    → Passing (Walked t rec edits places counts) (blockwise (sheetIn t) (begun (sheetIn t) h)) 1572864 m b n (run (blockwise (sheetIn t) (begun (sheetIn t) h)) w (from b₀ (n - b₀))))
 
 abbrev μ-loop : tie.MeasureT-loop
 μ-loop t rec₀ classes states edits₀ places₀ counts₀ n b₀ rec edits places counts b = n - b
-
--- src/levels.rt:218:5
-visits-requires : tie.Need-visits-requires Inv-loop μ-loop
-visits-requires c κs = search needs
-
--- src/levels.rt:219:9
-count-requires : tie.Need-count-requires Inv-loop μ-loop
-count-requires c κs = search needs
-
--- src/levels.rt:221:5
-loop-holds : tie.Need-loop-holds Inv-loop μ-loop
-loop-holds c = search needs
-
--- src/levels.rt:222:9
-take-in-requires : tie.Need-take-in-requires Inv-loop μ-loop
-take-in-requires c κs = search needs
-
--- src/levels.rt:223:9
-optimise-block-requires : tie.Need-optimise-block-requires Inv-loop μ-loop
-optimise-block-requires c κs = search needs
-
--- src/levels.rt:224:9
-add-b : tie.Need-add-b Inv-loop μ-loop
-add-b c = search needs
-
--- src/levels.rt:221:5
-loop-less : tie.Need-loop-less Inv-loop μ-loop
-loop-less c = search needs
-
--- src/levels.rt:221:5
-loop-again : tie.Need-loop-again Inv-loop μ-loop
-loop-again c = search needs
-
--- src/levels.rt:209:1
-same-length : tie.Need-same-length Inv-loop μ-loop
-same-length c = search needs
-
--- src/levels.rt:209:1
-same-length-2 : tie.Need-same-length-2 Inv-loop μ-loop
-same-length-2 c = search needs
-
--- src/levels.rt:209:1
-same-length-3 : tie.Need-same-length-3 Inv-loop μ-loop
-same-length-3 c = search needs
-
--- src/levels.rt:209:1
-returns : tie.Need-returns Inv-loop μ-loop
-returns c = search needs
 
 pub global-spec : {M : Type 1} → statement M
 global-spec =
@@ -71,15 +32,25 @@ global-spec =
     (tie.spec
     Inv-loop
     μ-loop
-    visits-requires
-    count-requires
-    loop-holds
-    take-in-requires
-    optimise-block-requires
-    add-b
-    loop-less
-    loop-again
-    same-length
-    same-length-2
-    same-length-3
-    returns)
+    (λ c κs. search needs)
+    (λ c κs. search needs)
+    (λ c. (refl, refl, search needs, λ o f h r e m w x. passing-start _ _ _ _ _ w x))
+    (λ c κs. search needs)
+    (λ c. search needs)
+    (λ c. search needs)
+    (λ c. (
+      search needs,
+      search needs,
+      search needs,
+      λ o f h r e m w x. block-next _ (c .before .before .before .before .before .before .before .before .before .before .before .before .loop-test .taken)
+          (block-begun _ _ h e (c .before .before .before .before .before .before .before .before .before .before .before .before .loop-test .taken)
+          (blocks-counted _ (c .before .before .before .before .before .before .before .before .before .before .before .before .before .before .count .ensures))
+          (c .before .before .before .before .before .before .optimise-handed .ensures o f r))
+          (c .before .before .before .before .before .before .before .before .before .before .before .before .before .loop .inv .3 o f h r e m w x),
+    ))
+    (λ c. search needs)
+    (λ c. search needs)
+    (λ c. search needs)
+    (λ c o f u n w x. global-end w (o .ready) (blocks-counted _ (c .before .before .count .ensures)) (c .loop-test .left)
+    (c .before .before .before .before .before .visits .ensures o u _ (n + 100663296) w (spent n x))
+    (λ h r e m w x. c .before .loop .inv .3 o f h r e m w x)))

@@ -1,64 +1,27 @@
+-- `move_optimizer::levels::local` meets its contract. The invariant: what remains of the blocks gives the same walk. Assumes nothing.
 use borrow.Author.Needs.{needs}
-use mathlib.Core.Path.{_≡_}
+use mathlib.Core.Path.{_≡_, refl}
+use Prim.Native.Nat.{ℕ, _+_, _-_, _*_}
 use lib.ListN.{length}
-use Prim.Native.Nat.{_-_}
+use Rattle.laws.specs.Fold.{run}
+use Rattle.laws.specs.Lists.{from}
+use Rattle.rules.specs.Forward.{Walk, nothing}
+use Rattle.table.specs.Sheet.{sheetIn}
+use Rattle.holders.specs.Holders.{Filled}
+use Rattle.moves.specs.Walks.{Ordered, Walked}
+use Rattle.move_optimizer.proofs.Levelling.{Passing, passing-start}
+use Rattle.move_optimizer.proofs.Handing.{blockwise, nothing-taken, blocks-counted, block-taken, block-next, blocks-start, blocks-end, is-local}
 use Rattle.move_optimizer.proofs.levels.local.Statement.{statement}
 use Rattle.move_optimizer.proofs.levels.local.Tie as tie
-use Rattle.move_optimizer.proofs.levels.local.Reads as reads
-use Rattle.move_optimizer.proofs.levels.local.Lts as lts
-use Rattle.move_optimizer.proofs.levels.optimise_block.Reads as optimise-block-reads
-use Rattle.states.proofs.handed.begin_empty.Reads as begin-empty-reads
-use Rattle.table.proofs.rows.count.Reads as count-reads
 
 abbrev Inv-loop : tie.InvT-loop
-Inv-loop t rec₀ classes edits₀ places₀ counts₀ n b₀ rec edits places counts b = (length edits ≡ length edits₀) × (length places ≡ length places₀) × (length counts ≡ length counts₀)
+Inv-loop t rec₀ classes edits₀ places₀ counts₀ n b₀ rec edits places counts b =
+    (length edits ≡ length edits₀) × (length places ≡ length places₀) × (length counts ≡ length counts₀)
+    × (Ordered t → Filled (sheetIn t) classes → (m : ℕ) (w : Walk) → Walked t rec₀ edits₀ places₀ counts₀ (m + 1572864 * (n - b₀)) w
+    → Passing (Walked t rec edits places counts) (blockwise (sheetIn t) (λ b. nothing)) 1572864 m b n (run (blockwise (sheetIn t) (λ b. nothing)) w (from b₀ (n - b₀))))
 
 abbrev μ-loop : tie.MeasureT-loop
 μ-loop t rec₀ classes edits₀ places₀ counts₀ n b₀ rec edits places counts b = n - b
-
--- src/levels.rt:88:9
-count-requires : tie.Need-count-requires Inv-loop μ-loop
-count-requires c κs = search needs
-
--- src/levels.rt:90:5
-loop-holds : tie.Need-loop-holds Inv-loop μ-loop
-loop-holds c = search needs
-
--- src/levels.rt:91:9
-begin-empty-requires : tie.Need-begin-empty-requires Inv-loop μ-loop
-begin-empty-requires c κs = search needs
-
--- src/levels.rt:92:9
-optimise-block-requires : tie.Need-optimise-block-requires Inv-loop μ-loop
-optimise-block-requires c κs = search needs
-
--- src/levels.rt:93:9
-add-b : tie.Need-add-b Inv-loop μ-loop
-add-b c = search needs
-
--- src/levels.rt:90:5
-loop-less : tie.Need-loop-less Inv-loop μ-loop
-loop-less c = search needs
-
--- src/levels.rt:90:5
-loop-again : tie.Need-loop-again Inv-loop μ-loop
-loop-again c = search needs
-
--- src/levels.rt:80:1
-same-length : tie.Need-same-length Inv-loop μ-loop
-same-length c = search needs
-
--- src/levels.rt:80:1
-same-length-2 : tie.Need-same-length-2 Inv-loop μ-loop
-same-length-2 c = search needs
-
--- src/levels.rt:80:1
-same-length-3 : tie.Need-same-length-3 Inv-loop μ-loop
-same-length-3 c = search needs
-
--- src/levels.rt:80:1
-returns : tie.Need-returns Inv-loop μ-loop
-returns c = search needs
 
 pub local-spec : {M : Type 1} → statement M
 local-spec =
@@ -66,14 +29,23 @@ local-spec =
     (tie.spec
     Inv-loop
     μ-loop
-    count-requires
-    loop-holds
-    begin-empty-requires
-    optimise-block-requires
-    add-b
-    loop-less
-    loop-again
-    same-length
-    same-length-2
-    same-length-3
-    returns)
+    (λ c κs. search needs)
+    (λ c. (refl, refl, refl, λ o f m w x. passing-start _ _ _ _ _ w x))
+    (λ c κs. search needs)
+    (λ c κs. search needs)
+    (λ c. search needs)
+    (λ c. search needs)
+    (λ c. (
+      search needs,
+      search needs,
+      search needs,
+      λ o f m w x. block-next _ (c .before .before .before .before .before .before .before .before .before .before .before .before .before .loop-test .taken)
+          (block-taken _ nothing (λ l. nothing-taken _ (c .before .before .before .before .before .before .before .before .before .before .before .begin-empty .ensures l))
+          (c .before .before .before .before .before .before .optimise-block .ensures o f))
+          (c .before .before .before .before .before .before .before .before .before .before .before .before .before .before .loop .inv .3 o f m w x),
+    ))
+    (λ c. search needs)
+    (λ c. search needs)
+    (λ c. search needs)
+    (λ c o f n w x. is-local w (blocks-end _ w (blocks-counted _ (c .before .before .count .ensures)) (c .loop-test .left)
+    (c .before .loop .inv .3 o f n w (blocks-start (o .ready) (blocks-counted _ (c .before .before .count .ensures)) n w x)))))

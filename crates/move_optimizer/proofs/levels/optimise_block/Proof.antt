@@ -1,69 +1,26 @@
+-- `move_optimizer::levels::optimise_block` meets its contract. The invariant: what remains of the instructions gives the same walk. Assumes nothing.
 use borrow.Author.Needs.{needs}
-use mathlib.Core.Path.{_≡_}
+use mathlib.Core.Path.{_≡_, refl}
+use Prim.Native.Nat.{ℕ, _+_, _-_, _*_}
 use lib.ListN.{length}
-use Prim.Native.Nat.{_-_}
+use Rattle.laws.specs.Fold.{run}
+use Rattle.laws.specs.Lists.{from}
+use Rattle.rules.specs.Forward.{Walk}
+use Rattle.table.specs.Sheet.{sheetIn}
+use Rattle.holders.specs.Holders.{Filled}
+use Rattle.moves.specs.Walks.{Ordered, Walked}
+use Rattle.move_optimizer.proofs.Levelling.{Passing, passing-start, optimises, optimised-start, optimised-next, optimised-end}
 use Rattle.move_optimizer.proofs.levels.optimise_block.Statement.{statement}
 use Rattle.move_optimizer.proofs.levels.optimise_block.Tie as tie
-use Rattle.move_optimizer.proofs.levels.optimise_block.Reads as reads
-use Rattle.move_optimizer.proofs.levels.optimise_block.Lts as lts
-use Rattle.move_optimizer.proofs.edit.optimise_edits.Reads as optimise-edits-reads
-use Rattle.move_optimizer.proofs.inst.optimise_inst.Reads as optimise-inst-reads
-use Rattle.move_optimizer.proofs.levels.enter.Reads as enter-reads
-use Rattle.table.proofs.index.insts_of.Reads as insts-of-reads
 
 abbrev Inv-loop : tie.InvT-loop
-Inv-loop t rec₀ classes edits₀ places₀ counts₀ b to i₀ rec edits places counts i = (length edits ≡ length edits₀) × (length places ≡ length places₀) × (length counts ≡ length counts₀)
+Inv-loop t rec₀ classes edits₀ places₀ counts₀ b to i₀ rec edits places counts i =
+    (length edits ≡ length edits₀) × (length places ≡ length places₀) × (length counts ≡ length counts₀)
+    × (Ordered t → Filled (sheetIn t) classes → (n : ℕ) (w : Walk) → Walked t rec₀ edits₀ places₀ counts₀ (n + 3072 * (to - i₀)) w
+    → Passing (Walked t rec edits places counts) (optimises (sheetIn t) (b .0)) 3072 n i to (run (optimises (sheetIn t) (b .0)) w (from i₀ (to - i₀))))
 
 abbrev μ-loop : tie.MeasureT-loop
 μ-loop t rec₀ classes edits₀ places₀ counts₀ b to i₀ rec edits places counts i = to - i
-
--- src/levels.rt:56:5
-enter-requires : tie.Need-enter-requires Inv-loop μ-loop
-enter-requires c κs = search needs
-
--- src/levels.rt:57:9
-insts-of-requires : tie.Need-insts-of-requires Inv-loop μ-loop
-insts-of-requires c κs = search needs
-
--- src/levels.rt:60:5
-loop-holds : tie.Need-loop-holds Inv-loop μ-loop
-loop-holds c = search needs
-
--- src/levels.rt:61:9
-optimise-edits-requires : tie.Need-optimise-edits-requires Inv-loop μ-loop
-optimise-edits-requires c κs = search needs
-
--- src/levels.rt:62:9
-optimise-inst-requires : tie.Need-optimise-inst-requires Inv-loop μ-loop
-optimise-inst-requires c κs = search needs
-
--- src/levels.rt:63:9
-add-i : tie.Need-add-i Inv-loop μ-loop
-add-i c = search needs
-
--- src/levels.rt:60:5
-loop-less : tie.Need-loop-less Inv-loop μ-loop
-loop-less c = search needs
-
--- src/levels.rt:60:5
-loop-again : tie.Need-loop-again Inv-loop μ-loop
-loop-again c = search needs
-
--- src/levels.rt:47:1
-same-length : tie.Need-same-length Inv-loop μ-loop
-same-length c = search needs
-
--- src/levels.rt:47:1
-same-length-2 : tie.Need-same-length-2 Inv-loop μ-loop
-same-length-2 c = search needs
-
--- src/levels.rt:47:1
-same-length-3 : tie.Need-same-length-3 Inv-loop μ-loop
-same-length-3 c = search needs
-
--- src/levels.rt:47:1
-returns : tie.Need-returns Inv-loop μ-loop
-returns c = search needs
 
 pub optimise-block-spec : {M : Type 1} → statement M
 optimise-block-spec =
@@ -71,15 +28,25 @@ optimise-block-spec =
     (tie.spec
     Inv-loop
     μ-loop
-    enter-requires
-    insts-of-requires
-    loop-holds
-    optimise-edits-requires
-    optimise-inst-requires
-    add-i
-    loop-less
-    loop-again
-    same-length
-    same-length-2
-    same-length-3
-    returns)
+    (λ c κs. search needs)
+    (λ c κs. search needs)
+    (λ c. (refl, refl, refl, λ o f n w x. passing-start _ _ _ _ _ w x))
+    (λ c κs. search needs)
+    (λ c κs. search needs)
+    (λ c. search needs)
+    (λ c. search needs)
+    (λ c. (
+      search needs,
+      search needs,
+      search needs,
+      λ o f n w x. optimised-next _ (c .before .before .before .before .before .before .before .before .before .before .before .before .before .before .before .before .loop-test .taken)
+          (c .before .before .before .before .before .before .before .before .before .before .before .before .optimise-edits .ensures o f)
+          (c .before .before .before .before .optimise-inst .ensures (o .ready) f)
+          (c .before .before .before .before .before .before .before .before .before .before .before .before .before .before .before .before .before .loop .inv .3 o f n w x),
+    ))
+    (λ c. search needs)
+    (λ c. search needs)
+    (λ c. search needs)
+    (λ c o f n w x. optimised-end _ w (c .before .before .insts-of .ensures) (c .loop-test .left) (o .ready)
+    (c .before .loop .inv .3 o f n _ (optimised-start _ (c .before .before .insts-of .ensures) (o .ready)
+    (c .before .before .before .enter .ensures) n w x))))

@@ -16,7 +16,7 @@ use Rattle.states.proofs.handed.hand_on.Tie as tie
 use Rattle.states.proofs.handed.hand_on.Reads as reads
 use Rattle.states.proofs.handed.hand_on.Lts as lts
 use Rattle.states.proofs.handed.hand_to.Reads as hand-to-reads
-use Rattle.table.proofs.view.succs.Reads as succs-reads
+use Rattle.graph.proofs.succs.Reads as succs-reads
 
 abbrev Inv-loop : tie.InvT-loop
 Inv-loop t rec states₀ bs sole w₀ k₀ states w k =

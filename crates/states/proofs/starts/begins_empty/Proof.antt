@@ -10,7 +10,7 @@ use Rattle.states.proofs.starts.begins_empty.Reads as reads
 use Rattle.states.proofs.starts.begins_empty.Lts as lts
 use Rattle.states.proofs.starts.some_later.Reads as some-later-reads
 use Rattle.table.proofs.view.is_entry.Reads as is-entry-reads
-use Rattle.table.proofs.view.preds.Reads as preds-reads
+use Rattle.graph.proofs.preds.Reads as preds-reads
 
 -- src/starts.rt:42:8
 is-entry-requires : tie.Need-is-entry-requires

@@ -1,0 +1,4 @@
+pub mod Loops
+pub mod Defining
+pub mod Owning
+pub mod Clobbering

@@ -1,0 +1,57 @@
+-- What a pass over the operands of an instruction takes: "In the optimising walk, early definitions come first, then folding, then the others; the
+-- preparing walk of `Global` .. takes operands in row order." And the units that an instruction itself defines, as a set.
+use mathlib.Core.Path.{_≡_}
+use mathlib.Core.Bool.{Bool, true, false, _||_}
+use mathlib.Core.List.{List, [], flatMap, zipWith}
+use mathlib.Core.Option.{Option·getD}
+use Prim.Native.Nat.{ℕ, _<_}
+use Rattle.laws.specs.Lists.{isIn}
+use Rattle.bits.specs.Sets.{has, setLimit}
+use Rattle.bits.specs.declared.sets.NumberSet.{NumberSet}
+use Rattle.entity.specs.declared.forms.Place.{Place}
+use Rattle.entity.specs.declared.forms.Place.the-variants.{Reg, Slot}
+use Rattle.rules.specs.Sheet.{Sheet, OpRow, valuesOf}
+use Rattle.rules.specs.Accept.{operandsAt, classFor}
+use Rattle.rules.specs.Forward.{earlyDefs, otherDefs, allDefs, groupRegs, placeUnits}
+use Rattle.definitions.specs.declared.Pass.{Pass}
+use Rattle.definitions.specs.declared.Pass.the-variants.{Early, Other, All}
+
+unfoldable pub taken : Sheet → Pass → OpRow → List (ℕ × Place)
+taken sh Early o = earlyDefs sh o
+taken sh Other o = otherDefs sh o
+taken sh All o = allDefs sh o
+
+-- a pass takes early definitions, and the others
+unfoldable pub takesEarly : Pass → Bool
+takesEarly Early = true
+takesEarly Other = false
+takesEarly All = true
+
+unfoldable pub takesOther : Pass → Bool
+takesOther Early = false
+takesOther Other = true
+takesOther All = true
+
+-- value v at register q
+abbrev pub atReg : ℕ → ℕ → ℕ × Place
+atReg v q = (v, Reg (record { 0 = q }))
+
+module _ (sh : Sheet) where
+  -- the values of group g, each at a register of the group that operand o begins
+  unfoldable pub membersOf : OpRow → ℕ → List (ℕ × Place)
+  membersOf o g = elim (o .place) [ Reg r ↦ zipWith atReg (valuesOf sh g) (groupRegs sh (Option·getD (classFor sh o) 0) (r .0)) | Slot t ↦ [] ]
+
+  -- the units of the places at which values are defined
+  abbrev pub unitsAt : List (ℕ × Place) → List ℕ
+  unitsAt ds = flatMap (λ d. placeUnits sh (d .1)) ds
+
+  -- those that instruction i itself defines
+  abbrev pub ownUnits : ℕ → List ℕ
+  ownUnits i = flatMap (λ o. unitsAt (allDefs sh o)) (operandsAt sh i)
+
+-- s′ has the members of s, and these; s has just these
+pub record With (s : NumberSet) (us : List ℕ) (s′ : NumberSet) : Type 0 where
+  pub each : (k : ℕ) → k < setLimit → has s′ k ≡ (has s k || isIn k us)
+
+pub record Only (s : NumberSet) (us : List ℕ) : Type 0 where
+  pub each : (k : ℕ) → k < setLimit → has s k ≡ isIn k us

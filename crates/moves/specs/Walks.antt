@@ -1,0 +1,56 @@
+-- A walk of the definitions as it lies in the code's tables: the record, the edits, the operands' places, the counts.
+use mathlib.Core.Path.{_≡_}
+use mathlib.Core.Bool.{true}
+use mathlib.Core.List.{List}
+use Prim.Native.Nat.{ℕ, _+_, _*_, _≤_, _<_}
+use lib.Dec.{eqb}
+use lib.ListN.{length, getD}
+use Rattle.laws.specs.Fold.{run}
+use Rattle.laws.specs.Lists.{keep}
+use Rattle.entity.specs.declared.record.Record.{Record}
+use Rattle.entity.specs.declared.forms.Edit.{Edit}
+use Rattle.entity.specs.declared.forms.Edit.the-variants.{Nothing}
+use Rattle.rules.specs.Sheet.{Sheet, instsOf}
+use Rattle.rules.specs.Accept.{inOrder}
+use Rattle.rules.specs.Record.{define, effect}
+use Rattle.rules.specs.Forward.{Walk, withRec, editsAt, optimiseEdit, optimiseInst, prepareInst}
+use Rattle.table.specs.Sheet.{sheetIn}
+use Rattle.table.specs.Index.{Ready}
+use Rattle.table.specs.Edits.{editsIn, placesIn}
+use Rattle.table.specs.Written.{EditCells, PlaceCell}
+use Rattle.record.specs.Flat.{recordIn, Long}
+
+-- refusals 1 to 3 are past and the index is built; of 6, that edits stand in order
+pub record Ordered (t : List ℕ) : Type 0 where
+  pub ready : Ready t
+  pub order : inOrder (sheetIn t .edits) ≡ true
+
+-- the walk's edits, places and counts stand in these cells; each count can go up n times more
+pub record Written (t edits places counts : List ℕ) (n : ℕ) (w : Walk) : Type 0 where
+  pub edit-room : length (sheetIn t .edits) * 4 ≤ length edits
+  pub edit-cells : (j : ℕ) → j < length (sheetIn t .edits) → EditCells edits j
+  pub is-edits : w .edits ≡ editsIn edits (length (sheetIn t .edits))
+  pub place-room : length (sheetIn t .ops) ≤ length places
+  pub place-cells : (j : ℕ) → j < length (sheetIn t .ops) → PlaceCell (getD places j 0)
+  pub is-places : w .places ≡ placesIn places (length (sheetIn t .ops))
+  pub few : (k : ℕ) → getD counts k 0 + n < 4294967296
+  pub is-counts : w .counts ≡ counts
+
+-- and its record in this table
+pub record Walked (t rec edits places counts : List ℕ) (n : ℕ) (w : Walk) : Type 0 where
+  pub long : Long rec
+  pub is-rec : w .rec ≡ recordIn rec
+  pub cells : Written t edits places counts n w
+
+-- ---- a block, once the record has taken in what was handed to it
+
+module _ (sh : Sheet) where
+  -- "then each of its parameter rows defines its value at its place"
+  unfoldable pub entered : ℕ → Record → Record
+  entered b s = run (λ u p. define sh b (p .value) (p .place) u) s (keep (λ p. eqb (p .at) b) (sh .params))
+
+  unfoldable pub optimised : ℕ → Walk → Walk
+  optimised b w = run (λ x i. optimiseInst sh b (run (optimiseEdit sh b) x (editsAt sh i)) i) (withRec (entered b) w) (instsOf sh b)
+
+  unfoldable pub prepared : ℕ → List Edit → Record → Record
+  prepared b es s = run (λ u i. prepareInst sh b (run (λ x j. effect sh (getD es j Nothing) x) u (editsAt sh i)) i) (entered b s) (instsOf sh b)

@@ -1,0 +1,32 @@
+-- Edits and places in cells as rows of a sheet have them.
+use mathlib.Core.Path.{_≡_}
+use mathlib.Core.List.{List, [], _∷_}
+use Prim.Native.Nat.{ℕ, _+_, _*_, _<_, _≤_}
+use lib.ListN.{getD}
+use Rattle.entity.specs.declared.forms.Edit.{Edit}
+use Rattle.entity.specs.declared.forms.Edit.the-variants.{Move, Remat, Espill, Ereload, Misplaced, Nothing}
+use Rattle.rules.specs.Answer.{editCells}
+use Rattle.table.specs.Edits.{editIn, SmallEdit}
+
+-- the four cells of edit n
+unfoldable pub fourIn : List ℕ → ℕ → List ℕ
+fourIn cells n = getD cells (n * 4) 0 ∷ getD cells (n * 4 + 1) 0 ∷ getD cells (n * 4 + 2) 0 ∷ getD cells (n * 4 + 3) 0 ∷ []
+
+-- "at most five digits": the value too
+abbrev pub SmallValue : Edit → Type 0
+SmallValue (Move to p v) = v .0 < 100000
+SmallValue (Remat to v) = v .0 < 100000
+SmallValue (Espill s r) = Unit {0}
+SmallValue (Ereload r s) = Unit {0}
+SmallValue (Misplaced to p) = Unit {0}
+SmallValue Nothing = Unit {0}
+
+-- the cells of edit n are those that an edit row has for it, its numbers being small
+pub record EditCells (edits : List ℕ) (n : ℕ) : Type 0 where
+  pub kept : fourIn edits n ≡ editCells (editIn edits n)
+  pub small : SmallEdit (editIn edits n)
+  pub value : SmallValue (editIn edits n)
+
+-- r0 to r99999 or s0 to s99999
+abbrev pub PlaceCell : ℕ → Type 0
+PlaceCell c = (200000 ≤ c) × (c < 400000)
