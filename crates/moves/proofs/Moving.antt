@@ -47,7 +47,7 @@ use Rattle.table.proofs.Stored.{with-length, edits-with, edits-at, cells-with, 
 use Rattle.record.specs.Flat.{recordIn, spilledBy, Long, Becomes}
 use Rattle.record.proofs.Changes.{spilling, becomes-same, long-after, after}
 use Rattle.holders.specs.Holders.{Filled}
-use Rattle.moves.specs.Walks.{Ordered, Written, Walked}
+use Rattle.moves.specs.Walks.{Ordered, Written, Walked, Optimises}
 use Rattle.moves.specs.Moves.{sourceOf, editBy, asEdit, fateBy, sourceFor, fateOf, settled, fatedRecord, recounted, rewritten, SmallArrival, SmallFate}
 use Rattle.moves.specs.declared.Source.{Source}
 use Rattle.moves.specs.declared.Source.the-variants as Source
@@ -290,52 +290,58 @@ walked-rec n f p k =
       cells = written-rec n f (written-less n (n + 1) (omega arith) (k .cells));
     }
 
--- what `optimise_edit` promises
-abbrev pub Optimises : List ℕ → List ℕ → List ℕ → List ℕ → List ℕ → List ℕ → List ℕ → List ℕ → ℕ → ℕ → Type 0
-Optimises t classes rec edits counts rec′ edits′ counts′ b j =
-    Ready t → Filled (sheetIn t) classes → (places : List ℕ) (n : ℕ) (w : Walk) → j < length (sheetIn t .edits)
-    → Walked t rec edits places counts (n + 1) w → Walked t rec′ edits′ places counts′ n (optimiseEdit (sheetIn t) b w j)
-
 module _ {t classes rec edits counts : List ℕ} (b j : ℕ) {e : Edit} (r : e ≡ editIn edits j) where
   module _ {rec′ edits′ counts′ : List ℕ} where
     pub edit-move : {to p : Place} {v : Value} → e ≡ Move to p v → Moves t classes rec edits counts rec′ edits′ counts′ b j (record { to = to; from = Source.At p; value = v })
         → Optimises t classes rec edits counts rec′ edits′ counts′ b j
     unfolding optimiseEdit sourceOf editBy
-    edit-move q m g fl places n w h k =
-        let row : getD (w .edits) j Nothing ≡ e = row-is (n + 1) j h k ∙ sym r in
-        rw (row ∙ q, optimiseEdit) (m g fl places n w h (row ∙ q) k)
+    edit-move q m = record {
+      goes = λ g fl places n w h k.
+          let row : getD (w .edits) j Nothing ≡ e = row-is (n + 1) j h k ∙ sym r in
+          rw (row ∙ q, optimiseEdit) (m g fl places n w h (row ∙ q) k);
+    }
 
     pub edit-remat : {to : Place} {v : Value} → e ≡ Remat to v → Moves t classes rec edits counts rec′ edits′ counts′ b j (record { to = to; from = Source.Nothing; value = v })
         → Optimises t classes rec edits counts rec′ edits′ counts′ b j
     unfolding optimiseEdit sourceOf editBy
-    edit-remat q m g fl places n w h k =
-        let row : getD (w .edits) j Nothing ≡ e = row-is (n + 1) j h k ∙ sym r in
-        rw (row ∙ q, optimiseEdit) (m g fl places n w h (row ∙ q) k)
+    edit-remat q m = record {
+      goes = λ g fl places n w h k.
+          let row : getD (w .edits) j Nothing ≡ e = row-is (n + 1) j h k ∙ sym r in
+          rw (row ∙ q, optimiseEdit) (m g fl places n w h (row ∙ q) k);
+    }
 
   module _ {rec′ : List ℕ} (p : Long rec → Becomes rec rec′ (effect (sheetIn t) e (recordIn rec))) where
     pub edit-espill : {s : SpillSlot} {x : PhysReg} → e ≡ Espill s x → Optimises t classes rec edits counts rec′ edits counts b j
     unfolding optimiseEdit
-    edit-espill {s} {x} q g fl places n w h k =
-        let row : getD (w .edits) j Nothing ≡ e = row-is (n + 1) j h k ∙ sym r in
-        rw (row ∙ q, optimiseEdit) (walked-rec n (effect (sheetIn t) (Espill s x)) (rw q at p) k)
+    edit-espill {s} {x} q = record {
+      goes = λ g fl places n w h k.
+          let row : getD (w .edits) j Nothing ≡ e = row-is (n + 1) j h k ∙ sym r in
+          rw (row ∙ q, optimiseEdit) (walked-rec n (effect (sheetIn t) (Espill s x)) (rw q at p) k);
+    }
 
     pub edit-ereload : {s : SpillSlot} {x : PhysReg} → e ≡ Ereload x s → Optimises t classes rec edits counts rec′ edits counts b j
     unfolding optimiseEdit
-    edit-ereload {s} {x} q g fl places n w h k =
-        let row : getD (w .edits) j Nothing ≡ e = row-is (n + 1) j h k ∙ sym r in
-        rw (row ∙ q, optimiseEdit) (walked-rec n (effect (sheetIn t) (Ereload x s)) (rw q at p) k)
+    edit-ereload {s} {x} q = record {
+      goes = λ g fl places n w h k.
+          let row : getD (w .edits) j Nothing ≡ e = row-is (n + 1) j h k ∙ sym r in
+          rw (row ∙ q, optimiseEdit) (walked-rec n (effect (sheetIn t) (Ereload x s)) (rw q at p) k);
+    }
 
   pub edit-misplaced : {to p : Place} → e ≡ Misplaced to p → Optimises t classes rec edits counts rec edits counts b j
   unfolding optimiseEdit
-  edit-misplaced q g fl places n w h k =
-      let row : getD (w .edits) j Nothing ≡ e = row-is (n + 1) j h k ∙ sym r in
-      rw (row ∙ q, optimiseEdit) (walked-less n (n + 1) (omega arith) k)
+  edit-misplaced q = record {
+    goes = λ g fl places n w h k.
+        let row : getD (w .edits) j Nothing ≡ e = row-is (n + 1) j h k ∙ sym r in
+        rw (row ∙ q, optimiseEdit) (walked-less n (n + 1) (omega arith) k);
+  }
 
   pub edit-none : e ≡ Nothing → Optimises t classes rec edits counts rec edits counts b j
   unfolding optimiseEdit
-  edit-none q g fl places n w h k =
-      let row : getD (w .edits) j Nothing ≡ e = row-is (n + 1) j h k ∙ sym r in
-      rw (row ∙ q, optimiseEdit) (walked-less n (n + 1) (omega arith) k)
+  edit-none q = record {
+    goes = λ g fl places n w h k.
+        let row : getD (w .edits) j Nothing ≡ e = row-is (n + 1) j h k ∙ sym r in
+        rw (row ∙ q, optimiseEdit) (walked-less n (n + 1) (omega arith) k);
+  }
 
 -- ---- the rows of an instruction
 
@@ -393,7 +399,7 @@ module _ {t classes rec edits counts rec₁ edits₁ counts₁ : List ℕ} {r : 
   pub edits-next : {rec₂ edits₂ counts₂ : List ℕ} → Optimises t classes rec₁ edits₁ counts₁ rec₂ edits₂ counts₂ b j → r .from ≤ j → j < r .to → Passed t classes rec edits counts rec₂ edits₂ counts₂ b (r .from) (j + 1)
   edits-next q h l o fl places m n w s k =
       rw (run-next (optimiseEdit (sheetIn t) b) w (r .from) j h)
-      (q (o .ready) fl places m (run (optimiseEdit (sheetIn t) b) w (from (r .from) (j - r .from))) (row-in i e (o .ready) l) (p o fl places (m + 1) n w (omega arith) k))
+      (q .goes (o .ready) fl places m (run (optimiseEdit (sheetIn t) b) w (from (r .from) (j - r .from))) (row-in i e (o .ready) l) (p o fl places (m + 1) n w (omega arith) k))
 
   pub edits-end : r .from ≤ j → j - r .from ≤ r .to - r .from → r .to ≤ j → Ordered t → Filled (sheetIn t) classes → (places : List ℕ) (n : ℕ) (w : Walk) → Walked t rec edits places counts (n + 1024) w
       → Walked t rec₁ edits₁ places counts₁ n (run (optimiseEdit (sheetIn t) b) w (editsAt (sheetIn t) i))

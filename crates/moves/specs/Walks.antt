@@ -19,6 +19,7 @@ use Rattle.table.specs.Index.{Ready}
 use Rattle.table.specs.Edits.{editsIn, placesIn}
 use Rattle.table.specs.Written.{EditCells, PlaceCell}
 use Rattle.record.specs.Flat.{recordIn, Long}
+use Rattle.holders.specs.Holders.{Filled}
 
 -- refusals 1 to 3 are past and the index is built; of 6, that edits stand in order
 pub record Ordered (t : List ℕ) : Type 0 where
@@ -41,6 +42,11 @@ pub record Walked (t rec edits places counts : List ℕ) (n : ℕ) (w : Walk) : 
   pub long : Long rec
   pub is-rec : w .rec ≡ recordIn rec
   pub cells : Written t edits places counts n w
+
+-- what one edit, row j, in block b makes of the record, the edits and the counts
+pub record Optimises (t classes rec edits counts rec′ edits′ counts′ : List ℕ) (b j : ℕ) : Type 0 where
+  pub goes : Ready t → Filled (sheetIn t) classes → (places : List ℕ) (n : ℕ) (w : Walk) → j < length (sheetIn t .edits)
+      → Walked t rec edits places counts (n + 1) w → Walked t rec′ edits′ places counts′ n (optimiseEdit (sheetIn t) b w j)
 
 -- ---- a block, once the record has taken in what was handed to it
 

@@ -15,7 +15,7 @@ ghost use Rattle.table.specs.Edits.{editsIn};
 ghost use Rattle.record.specs.Flat.{recordIn, Long, Becomes};
 ghost use Rattle.holders.specs.Holders.{Filled, regFound};
 ghost use Rattle.moves.specs.Moves.{sourceOf, asEdit, sourceFor, fateOf, settled, fatedRecord, rewritten, SmallArrival, SmallFate};
-ghost use Rattle.moves.specs.Walks.{Ordered, Written, Walked};
+ghost use Rattle.moves.specs.Walks.{Ordered, Written, Walked, Optimises};
 use entity::forms::Edit;
 use entity::forms::Place;
 use entity::numbers::Block;
@@ -236,9 +236,7 @@ fn optimise_edit(
     b: Block,
     j: EditRow,
 )
-    ensures { λ _. ⌜ (Ready (now (t .entry)) → Filled (sheetIn (now (t .entry))) (now (classes .entry)) → (places : List ℕ) (n : ℕ) (w : Walk) → j .0 < length ((sheetIn (now (t .entry))) .edits)
-        → Walked (now (t .entry)) (now (rec .entry)) (now (edits .entry)) places (now (counts .entry)) (n + 1) w
-        → Walked (now (t .entry)) (now (rec .exit)) (now (edits .exit)) places (now (counts .exit)) n (optimiseEdit (sheetIn (now (t .entry))) (b .0) w (j .0))) ⌝ }
+    ensures { λ _. ⌜ Optimises (now (t .entry)) (now (classes .entry)) (now (rec .entry)) (now (edits .entry)) (now (counts .entry)) (now (rec .exit)) (now (edits .exit)) (now (counts .exit)) (b .0) (j .0) ⌝ }
 {
     let e = read_edit(edits, j);
     match e {
@@ -265,6 +263,78 @@ fn optimise_edit(
     }
 }
 
+// The record of a walk as one value.
+pub struct WalkRecord {
+    pub cells: [u32; LENGTH],
+}
+
+// An edit with the record by value.
+fn stepped(
+    rec: WalkRecord,
+    t: &[u32],
+    classes: &[u64; WORDS],
+    edits: &mut [u32],
+    counts: &mut [u32],
+    b: Block,
+    j: EditRow,
+) -> WalkRecord
+    ensures { λ s. ⌜ Optimises (now (t .entry)) (now (classes .entry)) (rec .cells) (now (edits .entry)) (now (counts .entry)) (s .cells) (now (edits .exit)) (now (counts .exit)) (b .0) (j .0) ⌝ }
+{
+    let mut r = rec;
+    optimise_edit(t, &mut r.cells, classes, edits, counts, b, j);
+    r
+}
+
+// The record is lent to one edit step.
+fn step(
+    rec: &mut WalkRecord,
+    t: &[u32],
+    classes: &[u64; WORDS],
+    edits: &mut [u32],
+    counts: &mut [u32],
+    b: Block,
+    j: EditRow,
+)
+    ensures { λ _. ⌜ Optimises (now (t .entry)) (now (classes .entry)) (now (rec .entry) .cells) (now (edits .entry)) (now (counts .entry)) (now (rec .exit) .cells) (now (edits .exit)) (now (counts .exit)) (b .0) (j .0) ⌝ }
+{
+    *rec = stepped(*rec, t, classes, edits, counts, b, j);
+}
+
+// The owner of the record lends it, and has it again after the step.
+fn lent_step(
+    rec: WalkRecord,
+    t: &[u32],
+    classes: &[u64; WORDS],
+    edits: &mut [u32],
+    counts: &mut [u32],
+    b: Block,
+    j: EditRow,
+) -> WalkRecord
+    ensures { λ s. ⌜ Optimises (now (t .entry)) (now (classes .entry)) (rec .cells) (now (edits .entry)) (now (counts .entry)) (s .cells) (now (edits .exit)) (now (counts .exit)) (b .0) (j .0) ⌝ }
+{
+    let mut own = rec;
+    step(&mut own, t, classes, edits, counts, b, j);
+    own
+}
+
+// The step on the table of the record.
+fn step_cells(
+    t: &[u32],
+    rec: &mut [u32; LENGTH],
+    classes: &[u64; WORDS],
+    edits: &mut [u32],
+    counts: &mut [u32],
+    b: Block,
+    j: EditRow,
+)
+    ensures { λ _. ⌜ Optimises (now (t .entry)) (now (classes .entry)) (now (rec .entry)) (now (edits .entry)) (now (counts .entry)) (now (rec .exit)) (now (edits .exit)) (now (counts .exit)) (b .0) (j .0) ⌝ }
+{
+    let before = WalkRecord { cells: *rec };
+    let after = lent_step(before, t, classes, edits, counts, b, j);
+    let cells = after.cells;
+    *rec = cells;
+}
+
 // The edits at instruction i, in list order.
 pub fn optimise_edits(
     t: &[u32],
@@ -283,7 +353,7 @@ pub fn optimise_edits(
     let to = rows.to;
     let mut j = rows.from;
     while j < to {
-        optimise_edit(t, rec, classes, edits, counts, b, EditRow(j));
+        step_cells(t, rec, classes, edits, counts, b, EditRow(j));
         j += 1;
     }
 }

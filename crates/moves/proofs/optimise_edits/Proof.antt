@@ -41,7 +41,7 @@ optimise-edits-spec =
           (c .before .before .before .before .before .before .before .before .before .before .before .before .before .before .args .b .0)
           (c .before .before .before .before .before .before .before .before .before .before .before .before .before .before .args .i .0)
           (c .before .before .before .before .before .before .before .before .before .before .edit-rows .ensures) (g .inv .4)
-          (c .before .before .before .before .optimise-edit .ensures) (omega arith) (omega arith),
+          (c .before .before .before .before .step-cells .ensures) (omega arith) (omega arith),
     ))
     (λ c. search needs)
     (λ c. search needs)
