@@ -1,4 +1,5 @@
--- Refusal 4 by block, and the blocks reached as a set. Assumes nothing.
+-- For `src/blocks.rt`: refusal 4 block by block, by the code's answers: predecessor lists, entries, several successors, sole predecessors, idoms.
+-- What an entry reaches is left to `Reaching`. Assumes nothing.
 use mathlib.Core.Path.{_≡_, refl, sym, ap, _∙_}
 use mathlib.Core.Bool.{Bool, true, false, not, _&&_, and-false}
 use mathlib.Core.List.{List, [], _∷_}
@@ -10,12 +11,12 @@ use lib.Dec.{eqb, leb, ltb}
 use lib.ListN.{length, getD}
 use borrow.Author.Tests.{lt-ltb, eq-eqb, ne-eqb, lt-leb, le-leb, not-true, not-false}
 use Rattle.laws.specs.Lists.{all, any, isIn, from}
-use Rattle.rules.specs.Sheet.{Sheet, BlockRow, blockCount, blockRow, succsOf, predsOf}
+use Rattle.rules.specs.Sheet.{Sheet, BlockRow, blockRow, succsOf, predsOf}
 use Rattle.rules.specs.Accept.{isEntry, blocksFrom0, someEntry, noneEmpty, listsAgree, entriesFirst, noCriticalEdge, solePredsSmaller, idomsSmaller, allReached, blocksHold, entry}
 use Rattle.table.specs.Rows.{countIn}
 use Rattle.table.specs.Sheet.{sheetIn}
 use Rattle.table.proofs.Loops.{all-numbers, any-numbers}
-use Rattle.table.proofs.Sheets.{long-of, blocks-are}
+use Rattle.table.proofs.Sheets.{blocks-counted}
 use Rattle.entity.specs.declared.sets.FoundBlock.{FoundBlock}
 use Rattle.entity.specs.declared.sets.FoundBlock.the-variants.{At, Nothing}
 use Rattle.table.specs.View.{blockFound}
@@ -37,20 +38,14 @@ all-and f g (x ∷ l) = rw (all-and f g l) (four (f x) (g x) (all f l) (all g l)
 
 -- ---- by block
 
-abbrev pub blockCountIn : List ℕ → ℕ
-blockCountIn t = blockCount (sheetIn t)
-
-pub blocks-long : (t : List ℕ) (n : ℕ) → n ≡ countIn t 6 → n ≡ blockCount (sheetIn t)
-blocks-long t n e = e ∙ sym (long-of (blocks-are t))
-
 -- where a loop over the blocks begins
 pub blocks-start : (t : List ℕ) (f : ℕ → Bool) (n : ℕ) → n ≡ countIn t 6 → all f (from 0 (n - 0)) ≡ all f (blocksFrom0 (sheetIn t))
-blocks-start t f n e = ap (λ (m : ℕ). all f (from 0 m)) (sub-zero n ∙ blocks-long t n e)
+blocks-start t f n e = ap (λ (m : ℕ). all f (from 0 m)) (sub-zero n ∙ blocks-counted t e)
 
 pub some-start : (t : List ℕ) (n : ℕ) → n ≡ countIn t 6 → any (isEntry (sheetIn t)) (from 0 (n - 0)) ≡ someEntry (sheetIn t)
 unfolding someEntry
 some-start t n e =
-    ap (λ (m : ℕ). any (isEntry (sheetIn t)) (from 0 m)) (sub-zero n ∙ blocks-long t n e)
+    ap (λ (m : ℕ). any (isEntry (sheetIn t)) (from 0 m)) (sub-zero n ∙ blocks-counted t e)
     ∙ sym (any-numbers (λ (b : BlockRow). b .entry) (record { instructions = 0; idom = none; entry = false }) (sheetIn t .blocks))
 
 module _ (sh : Sheet) where

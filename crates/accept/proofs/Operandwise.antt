@@ -1,6 +1,6 @@
--- Refusal 5 by operand. Assumes nothing.
+-- For `src/constraints.rt`: refusal 5 operand by operand, by the code's answers: reuses, constraints, classes and groups. Assumes nothing.
 use mathlib.Core.Path.{_≡_, refl, sym, ap, _∙_}
-use mathlib.Core.Bool.{Bool, true, false, not, _||_, and-false}
+use mathlib.Core.Bool.{Bool, true, false, not, and-false}
 use mathlib.Core.List.{List, []}
 use mathlib.Core.Option.{Option·elim}
 use Prim.Native.Nat.{ℕ, _-_}
@@ -13,15 +13,12 @@ use Rattle.entity.specs.declared.forms.Place.{Place}
 use Rattle.entity.specs.declared.forms.Place.the-variants.{Reg, Slot}
 use Rattle.entity.specs.declared.forms.Constraint.{Constraint}
 use Rattle.entity.specs.declared.forms.Constraint.the-variants.{Class, Fixed, Reuse}
-use Rattle.entity.specs.declared.forms.OperandKind.{OperandKind}
-use Rattle.entity.specs.declared.forms.OperandKind.the-variants.{DefGroup, UseGroup, EarlyDefGroup, NonAllocatable}
 use Rattle.entity.specs.declared.numbers.PhysReg.{PhysReg}
 use Rattle.entity.specs.declared.numbers.SpillSlot.{SpillSlot}
 use Rattle.entity.specs.declared.numbers.RegClass.{RegClass}
 use Rattle.entity.specs.declared.numbers.OperandIndex.{OperandIndex}
-use Rattle.entity.specs.declared.numbers.ValueGroup.{ValueGroup}
-use Rattle.rules.specs.Sheet.{Sheet, OpRow, GroupRow, is, kindWord, subjectOf, valuesOf, classRow}
-use Rattle.rules.specs.Accept.{samePlace, operand, inClass, classOf, classFor, reuseHolds, constraintHolds, fixedHolds, headedBy, beginsGroup, groupHolds, operandsHold}
+use Rattle.rules.specs.Sheet.{Sheet, OpRow, GroupRow, valuesOf, classRow}
+use Rattle.rules.specs.Accept.{samePlace, kindsMatch, operand, inClass, classOf, classFor, reuseHolds, constraintHolds, fixedHolds, headedBy, beginsGroup, groupAt, groupHolds, operandsHold}
 use Rattle.table.specs.Rows.{countIn}
 use Rattle.table.specs.Sheet.{sheetIn}
 use Rattle.table.specs.View.{opRow, groupRow, operandOf}
@@ -30,7 +27,7 @@ use Rattle.table.proofs.Loops.{all-numbers, any-numbers}
 use Rattle.table.proofs.Sheets.{long-of, ops-are, groups-are}
 use Rattle.operands.specs.Operands.{asRow, operandFound, classFound}
 use Rattle.operands.proofs.Finding.{op-lost, op-found, class-lost, class-found}
-use Rattle.accept.specs.Operands.{isClass, isFixed, kindsMatch, reuses, groupIs, groupAt, operandHolds}
+use Rattle.accept.specs.Operands.{isClass, reuses, groupIs, operandHolds}
 use Rattle.operands.specs.declared.FoundOperand.{FoundOperand}
 use Rattle.operands.specs.declared.FoundOperand.the-variants as FoundOperand
 use Rattle.operands.specs.declared.FoundClass.{FoundClass}
@@ -57,7 +54,7 @@ module _ (o u : Operand) where
   class-is sh (Reuse k) = refl
 
   pub reuse-kinds : (x : Bool) → x ≡ kindsMatch (o .kind) (u .kind) → not x ≡ true → (sh : Sheet) → false ≡ reuseHolds sh (asRow o) (asRow u)
-  unfolding reuseHolds asRow kindsMatch
+  unfolding reuseHolds asRow
   reuse-kinds x e n sh = let z = sym e ∙ not-true x n in rw z
 
   pub reuse-class : (y : Bool) → y ≡ isClass (u .constraint) → not y ≡ true → (sh : Sheet) → false ≡ reuseHolds sh (asRow o) (asRow u)
@@ -66,7 +63,7 @@ module _ (o u : Operand) where
 
   pub reuse-place : (x y z : Bool) → x ≡ kindsMatch (o .kind) (u .kind) → not x ≡ false → y ≡ isClass (u .constraint) → not y ≡ false → z ≡ samePlace (u .place) (o .place)
       → (sh : Sheet) → z ≡ reuseHolds sh (asRow o) (asRow u)
-  unfolding reuseHolds asRow kindsMatch
+  unfolding reuseHolds asRow
   reuse-place x y z e n f m q sh =
       let a = sym e ∙ not-false x n in
       let b = class-is sh (u .constraint) ∙ sym f ∙ not-false y m in rw (a, b) q
@@ -90,22 +87,6 @@ module _ {H : Type 0} (sh : Sheet) (o : Operand) where
   pub constraint-reuse : (k : OperandIndex) (x : Bool) → o .constraint ≡ Reuse k → (H → x ≡ reuses sh (asRow o) (k .0)) → H → x ≡ constraintHolds sh (asRow o)
   unfolding asRow
   constraint-reuse k x e p g = p g ∙ sym (holds-by sh (asRow o) ∙ ap (holdsBy sh (asRow o)) e)
-
--- ---- kinds
-
-fixed-is : (c : Constraint) → isFixed c ≡ elim c [ Class c ↦ false | Fixed r ↦ true | Reuse k ↦ false ]
-unfolding isFixed
-fixed-is (Class c) = refl
-fixed-is (Fixed r) = refl
-fixed-is (Reuse k) = refl
-
-pub fixed-own : (o : Operand) (x : Bool) → o .kind ≡ NonAllocatable → x ≡ isFixed (o .constraint) → (sh : Sheet) → x ≡ fixedHolds sh (asRow o)
-unfolding fixedHolds asRow is kindWord
-fixed-own o x e p sh = rw e (p ∙ fixed-is (o .constraint))
-
-pub fixed-other : (o : Operand) → is "fixed" (o .kind) ≡ false → (sh : Sheet) → true ≡ fixedHolds sh (asRow o)
-unfolding fixedHolds asRow
-fixed-other o e sh = rw e
 
 -- ---- groups
 
@@ -145,31 +126,7 @@ module _ {H : Type 0} (sh : Sheet) (o : Operand) (v : ℕ) where
     group-classed c l x z m p g =
         p ∙ ap (λ (l : List ℕ). beginsGroup sh (c .0) (r .0) (length l)) m ∙ sym (group-by sh o v ∙ ap (groupBy sh o v) e ∙ rw (class-found (classFor sh (asRow o)) c (sym z ∙ q g)))
 
--- a group kind, and another
-module _ (sh : Sheet) (o : Operand) where
-  abbrev grouped : OperandKind → Bool
-  grouped k = not (is "defg" k || is "useg" k || is "earlyg" k) || groupAt sh (asRow o) (subjectOf k)
-
-  grouped-is : groupHolds sh (asRow o) ≡ grouped (o .kind)
-  unfolding groupHolds groupAt asRow
-  grouped-is = refl
-
 module _ {H : Type 0} (sh : Sheet) (o : Operand) where
-  pub group-def : (v : ValueGroup) (x : Bool) → o .kind ≡ DefGroup v → (H → x ≡ groupAt sh (asRow o) (v .0)) → H → x ≡ groupHolds sh (asRow o)
-  unfolding is kindWord subjectOf
-  group-def v x e p g = p g ∙ sym (grouped-is sh o ∙ ap (grouped sh o) e)
-
-  pub group-use : (v : ValueGroup) (x : Bool) → o .kind ≡ UseGroup v → (H → x ≡ groupAt sh (asRow o) (v .0)) → H → x ≡ groupHolds sh (asRow o)
-  unfolding is kindWord subjectOf
-  group-use v x e p g = p g ∙ sym (grouped-is sh o ∙ ap (grouped sh o) e)
-
-  pub group-early : (v : ValueGroup) (x : Bool) → o .kind ≡ EarlyDefGroup v → (H → x ≡ groupAt sh (asRow o) (v .0)) → H → x ≡ groupHolds sh (asRow o)
-  unfolding is kindWord subjectOf
-  group-early v x e p g = p g ∙ sym (grouped-is sh o ∙ ap (grouped sh o) e)
-
-  pub group-other : (k : OperandKind) → o .kind ≡ k → (is "defg" k || is "useg" k || is "earlyg" k) ≡ false → H → true ≡ groupHolds sh (asRow o)
-  group-other k e n g = sym (grouped-is sh o ∙ ap (grouped sh o) e ∙ rw n)
-
   -- one operand
   pub op-constraint : (x : Bool) → (H → x ≡ constraintHolds sh (asRow o)) → not x ≡ true → H → false ≡ operandHolds sh (asRow o)
   unfolding operandHolds

@@ -1,4 +1,4 @@
--- Refusal 6: edits in order, the edits of a block, pairs, home slots and shared units. Assumes nothing.
+-- For `src/edits.rt`: refusal 6, by the code's answers: edits in order, the edits of a block, pairs, home slots and shared units. Assumes nothing.
 use mathlib.Core.Path.{_≡_, refl, sym, ap, _∙_}
 use mathlib.Core.Bool.{Bool, true, false, not, _&&_, _||_, and-false, or-false}
 use mathlib.Core.List.{List, [], _∷_, map}
@@ -12,8 +12,9 @@ use lib.ListN.{length, getD, take, drop, drop-of-length-le, List·getD-eq-defaul
 use lib.Seq.{drop-cons, take-nil}
 use borrow.Author.Tests.{lt-ltb, le-ltb, le-leb, lt-leb, leb-true, eq-eqb, ne-eqb, ltb-true, not-true, not-false}
 use Rattle.laws.specs.Lists.{all, any, keep, isIn, from}
-use Rattle.laws.proofs.Cases.{by-bool, by-lt, by-eq}
-use Rattle.entity.specs.Limits.{blockLimit, instLimit, slotLimit, unitLimit}
+use Rattle.laws.proofs.Cases.{by-bool, by-lt, by-eq, same-test}
+use Rattle.laws.proofs.Lists.{is-from, keep-none, part-map, from-long}
+use Rattle.entity.specs.Limits.{blockLimit, instLimit, unitLimit}
 use Rattle.bits.specs.Sets.{has, setOf, setLimit}
 use Rattle.bits.specs.declared.sets.NumberSet.{NumberSet}
 use Rattle.bits.proofs.Members.{has-setOf, setOf-same}
@@ -26,6 +27,8 @@ use Rattle.entity.specs.declared.numbers.SpillSlot.{SpillSlot}
 use Rattle.rules.specs.Rows.{first}
 use Rattle.rules.specs.Sheet.{Sheet, RegRow, EditRow, regCount, blockCount, instCount, homeOf, unitsOf, instsOf, totalOf}
 use Rattle.rules.specs.Accept.{withinLimits, unitsWithin, editNames, slotExists, regExists, inOrder, placed, paired, editsIn, noHome, apart, pairHolds, editsHold}
+use Rattle.rules.proofs.Refusals.{in-limits, all-named, each-named}
+use Rattle.table.specs.Layout.{editIndex, instIndex}
 use Rattle.table.specs.Rows.{countIn}
 use Rattle.table.specs.Sheet.{rowsAt, sheetIn}
 use Rattle.table.specs.Index.{before, rangeIn, NeverFalls, Ready}
@@ -33,20 +36,20 @@ use Rattle.table.specs.View.{editRow, slotFound}
 use Rattle.table.specs.Edits.{editAtRow}
 use Rattle.table.specs.declared.index.Range.{Range}
 use Rattle.table.proofs.Loops.{and-left, and-right, and-both, never, all-at, all-each, any-hit, all-numbers, any-numbers, keep-map, keep-same}
-use Rattle.table.proofs.Sheets.{long-of, edits-are, values-are, regs-are, editRowOf, from-long}
+use Rattle.table.proofs.Sheets.{long-of, edits-are, values-are, regs-are, editRowOf}
 use Rattle.table.proofs.Beginnings.{from-at}
 use Rattle.table.specs.declared.view.FoundSlot.{FoundSlot}
 use Rattle.table.specs.declared.view.FoundSlot.the-variants as FoundSlot
 use Rattle.names.proofs.Sets.{below, all-more, any-setOf}
 use Rattle.table.proofs.Stored.{sheet-edit-is}
-use Rattle.table.proofs.Lookups.{insts-are, edits-fall-in, edits-named, all-named}
-use Rattle.table.proofs.Building.{few-insts}
+use Rattle.table.proofs.Lookups.{insts-are, edits-fall-in}
 use Rattle.table.proofs.Filling.{total-part}
+use Rattle.table.proofs.Ranges.{before-low}
 use Rattle.accept.specs.Pairs.{pairedBy, afterEdit, editsOf, isHomeOf, homeSet, sharedIn, sharedSet, pairApart, editHolds, eachHolds}
 use Rattle.accept.specs.declared.edits.Open.{Open}
 use Rattle.accept.specs.declared.edits.Open.the-variants.{None, Spill, Broken}
 use Rattle.accept.proofs.Blockwise.{all-and}
-use Rattle.accept.proofs.Reaching.{same-bool, any-more, any-at, from-hit, from-some, in-hit, or-cases, or-left, or-right}
+use Rattle.accept.proofs.Reaching.{any-more, any-at, from-hit, from-some, in-hit, or-cases, or-left, or-right}
 
 -- ---- in order
 
@@ -168,27 +171,6 @@ pairs-start es = refl
 
 -- ---- the edits of a block
 
-in-from : (a n x : ℕ) → isIn x (from a n) ≡ (leb a x && ltb x (a + n))
-unfolding isIn any from
-in-from a zero x = by-lt x a (λ h. rw (lt-leb a x h)) (λ h. rw (le-ltb x (a + 0) (omega arith)) (sym (and-false (leb a x))))
-in-from a (suc n) x =
-    by-eq x a
-    (λ q. rw (eq-eqb x a q, le-leb a x (omega arith), lt-ltb x (a + suc n) (omega arith)))
-    (λ d.
-    let m : suc a + n ≡ a + suc n = omega arith in
-    rw (ne-eqb x a d)
-    (in-from (suc a) n x ∙ rw m (by-lt x a (λ h. rw (lt-leb a x h, lt-leb (suc a) x (omega arith))) (λ h. rw (le-leb a x h, le-leb (suc a) x (omega arith))))))
-
-keep-none : {A : Type 0} (f : A → Bool) (d : A) (l : List A) → ((j : ℕ) → j < length l → f (getD l j d) ≡ false) → keep f l ≡ []
-unfolding keep
-keep-none f d [] h = refl
-keep-none f d (x ∷ l) h = rw (h 0 (omega arith)) (keep-none f d l (λ j u. h (suc j) (omega arith)))
-
-before-low : (x : ℕ) (rows : List (List ℕ)) → ((j : ℕ) → j < length rows → x ≤ first (getD rows j [])) → before x rows ≡ 0
-unfolding before
-before-low x [] h = refl
-before-low x (r ∷ rows) h = rw (le-ltb (first r) x (h 0 (omega arith)))
-
 abbrev within : ℕ → ℕ → List ℕ → Bool
 within f u r = leb f (first r) && ltb (first r) u
 
@@ -213,14 +195,7 @@ span f u s (r ∷ rows) up =
     rw (le-ltb (first r) f h, le-ltb (first r) u l, and-false (leb f (first r)))
     (keep-none (within f u) [] rows (λ j v. rw (le-ltb (first (getD rows j [])) u (omega (arith, on j v))) (and-false (leb f (first (getD rows j []))))))))
 
-part-map : {A B : Type 0} (f : A → B) (m n : ℕ) (l : List A) → take m (drop n (map f l)) ≡ map f (take m (drop n l))
-part-map f zero n l = refl
-part-map f (suc m) zero [] = refl
-part-map f (suc m) zero (x ∷ l) = ap (λ (y : _). f x ∷ y) (part-map f m zero l)
-part-map f (suc m) (suc n) [] = refl
-part-map f (suc m) (suc n) (x ∷ l) = part-map f (suc m) n l
-
-module _ {t : List ℕ} (g : Ready t) (o : inOrder (sheetIn t .edits) ≡ true) (b : ℕ) (i : Range) (e : i ≡ rangeIn t 54632 blockLimit b) where
+module _ {t : List ℕ} (g : Ready t) (o : inOrder (sheetIn t .edits) ≡ true) (b : ℕ) (i : Range) (e : i ≡ rangeIn t instIndex blockLimit b) where
   abbrev sh : Sheet
   sh = sheetIn t
 
@@ -238,18 +213,18 @@ module _ {t : List ℕ} (g : Ready t) (o : inOrder (sheetIn t .edits) ≡ true) 
   insts-within h =
       by-lt b blockLimit
       (λ l.
-      let q : 54632 + b + 1 ≡ 54632 + (b + 1) = omega arith in
+      let q : instIndex + b + 1 ≡ instIndex + (b + 1) = omega arith in
       let z : i .to ≡ totalOf (take (b + 1) (sh .blocks)) = ap (λ (x : Range). x .to) e ∙ rw (lt-ltb b blockLimit l, q) (g .built .insts (b + 1) (omega arith)) in
-      rw z (omega (arith, total-part (b + 1) (sh .blocks), few-insts sh (g .limits))))
+      rw z (omega (arith, total-part (b + 1) (sh .blocks), in-limits sh (g .limits) .few-insts)))
       (λ l. let z : i .to ≡ 0 = ap (λ (x : Range). x .to) e ∙ rw (le-ltb b blockLimit l) in rw z (omega arith))
 
-  pub block-some : (x y : Range) → i .from < i .to → x ≡ rangeIn t 56008 instLimit (i .from) → y ≡ rangeIn t 56008 instLimit (i .to - 1)
+  pub block-some : (x y : Range) → i .from < i .to → x ≡ rangeIn t editIndex instLimit (i .from) → y ≡ rangeIn t editIndex instLimit (i .to - 1)
       → editsOf (take (y .to - x .from) (drop (x .from) (sh .edits))) ≡ editsIn sh b
   unfolding rangeIn editsIn editsOf
   block-some x y h p q =
       let w = insts-within h in
       let a : x .from ≡ before (i .from) (rowsAt t 12) = ap (λ (x : Range). x .from) p ∙ rw (lt-ltb (i .from) instLimit (omega arith)) (g .built .edits (i .from) (omega arith)) in
-      let k : 56008 + (i .to - 1) + 1 ≡ 56008 + i .to = omega arith in
+      let k : editIndex + (i .to - 1) + 1 ≡ editIndex + i .to = omega arith in
       let c : y .to ≡ before (i .to) (rowsAt t 12) = ap (λ (x : Range). x .to) q ∙ rw (lt-ltb (i .to - 1) instLimit (omega arith), k) (g .built .edits (i .to) w) in
       let m : i .from + (i .to - i .from) ≡ i .to = omega arith in
       rw (a, c)
@@ -258,7 +233,7 @@ module _ {t : List ℕ} (g : Ready t) (o : inOrder (sheetIn t .edits) ≡ true) 
       ∙ part-map editRowOf (before (i .to) (rowsAt t 12) - before (i .from) (rowsAt t 12)) (before (i .from) (rowsAt t 12)) (rowsAt t 12)
       ∙ ap (map editRowOf)
       (sym (span (i .from) (i .to) (omega arith) (rowsAt t 12) (edits-fall-in g o))
-      ∙ keep-same (within (i .from) (i .to)) (λ r. isIn (first r) (instsOf sh b)) (rowsAt t 12) (λ r. sym (ap (isIn (first r)) insts ∙ in-from (i .from) (i .to - i .from) (first r) ∙ ap (λ (n : ℕ). leb (i .from) (first r) && ltb (first r) n) m)))
+      ∙ keep-same (within (i .from) (i .to)) (λ r. isIn (first r) (instsOf sh b)) (rowsAt t 12) (λ r. sym (ap (isIn (first r)) insts ∙ is-from (first r) (i .from) (i .to - i .from) ∙ ap (λ (n : ℕ). leb (i .from) (first r) && ltb (first r) n) m)))
       ∙ sym (keep-map editRowOf (λ e. isIn (e .at) (instsOf sh b)) (rowsAt t 12)) ∙ ap (keep (λ e. isIn (e .at) (instsOf sh b))) (sym (edits-are t .is))))
 
 -- ---- home slots
@@ -365,7 +340,7 @@ module _ (sh : Sheet) (r : ℕ) (h : r < regCount sh) where
   pub apart-is : not (any (sharedIn sh (regCount sh)) (unitsOf sh r)) ≡ apart sh r
   unfolding apart
   apart-is =
-      same-bool (not (any (sharedIn sh (regCount sh)) (unitsOf sh r))) (all other (from 0 (regCount sh)))
+      same-test (not (any (sharedIn sh (regCount sh)) (unitsOf sh r))) (all other (from 0 (regCount sh)))
       (λ e.
       all-each other 0 (from 0 (regCount sh))
       (λ j l.
@@ -399,17 +374,10 @@ module _ (sh : Sheet) (r : ℕ) (h : r < regCount sh) where
 -- ---- one edit
 
 units-below : (sh : Sheet) (r : ℕ) → withinLimits sh ≡ true → r < regCount sh → below (unitsOf sh r) ≡ true
-unfolding withinLimits unitsWithin
+unfolding unitsWithin
 units-below sh r e h =
-    let z : all (λ (r : RegRow). unitsWithin (r .units)) (sh .regs) ≡ true =
-    by-bool (all (λ (r : RegRow). unitsWithin (r .units)) (sh .regs)) (λ p. p) (λ p. let z : false ≡ true = simp (p, and-false) at e in never z)
-    in
     all-more (λ u. ltb u unitLimit) (λ u. ltb u setLimit) (λ u l. lt-ltb u setLimit (omega (arith, ltb-true u unitLimit l))) (unitsOf sh r)
-    (all-at (λ (r : RegRow). unitsWithin (r .units)) _ (sh .regs) z r h)
-
-few-slots : (sh : Sheet) → withinLimits sh ≡ true → sh .slots ≤ slotLimit
-unfolding withinLimits
-few-slots sh e = by-bool (leb (sh .slots) slotLimit) (λ p. leb-true _ _ p) (λ p. let z : false ≡ true = simp (p, and-false) at e in never z)
+    (all-at (λ (r : RegRow). unitsWithin (r .units)) _ (sh .regs) (in-limits sh e .small-units) r h)
 
 module _ (t : List ℕ) (homes shared : NumberSet) (s r : ℕ) where
   abbrev pub Known : Type 0 → Type 0
@@ -419,7 +387,7 @@ module _ (t : List ℕ) (homes shared : NumberSet) (s r : ℕ) where
   unfolding homeSet
   has-home e g p q a b =
       e ∙ ap (λ (h : NumberSet). has h s) p
-      ∙ has-setOf (isHomeOf (sheetIn t)) s (omega (arith, few-slots (sheetIn t) (g .limits), ltb-true s (sheetIn t .slots) a))
+      ∙ has-setOf (isHomeOf (sheetIn t)) s (omega (arith, in-limits (sheetIn t) (g .limits) .few-slots, ltb-true s (sheetIn t .slots) a))
 
   pub apart-home : {x : Bool} → x ≡ has homes s → x ≡ true → Known (false ≡ pairApart (sheetIn t) s r)
   unfolding pairApart noHome isHomeOf
@@ -492,7 +460,7 @@ module _ (t : List ℕ) where
       let w : e ≡ editRow sh n .edit = z ∙ sym (sheet-edit-is t n (record { at = 0; edit = Nothing }) refl) in
       let l : n < length (sh .edits) = omega (arith, long-of (edits-are t)) in
       let a =
-      all-at (λ (e : EditRow). ltb (e .at) (instCount sh) && editNames sh (e .edit)) (record { at = 0; edit = Nothing }) (sh .edits) (edits-named sh (all-named sh (g .names))) n l
+      all-at (λ (e : EditRow). ltb (e .at) (instCount sh) && editNames sh (e .edit)) (record { at = 0; edit = Nothing }) (sh .edits) (each-named sh (all-named sh (g .names)) .edits) n l
       in
       k g p q (rw w (and-right (ltb (editRow sh n .at) (instCount sh)) (editNames sh (editRow sh n .edit)) a)) ∙ ap (editHolds sh) w
 

@@ -1,4 +1,5 @@
--- The blocks that an entry reaches: as a set, and by steps. Assumes nothing.
+-- For `all_reached` of `src/blocks.rt` and its steps, and for the theorem `steps_are_enough`: the blocks that an entry reaches, as a set and by steps.
+-- Assumes nothing.
 use mathlib.Core.Path.{_≡_, refl, sym, ap, _∙_}
 use mathlib.Core.Bool.{Bool, true, false, _&&_, _||_, or-false, or-true, and-false, or-assoc}
 use mathlib.Core.List.{List, [], _∷_, _++_, flatMap}
@@ -11,29 +12,23 @@ use lib.Dec.{T, eqb, ltb}
 use lib.ListN.{length, getD}
 use borrow.Author.Tests.{lt-ltb, le-ltb, eq-eqb, ne-eqb, ltb-true, eqb-true}
 use Rattle.laws.specs.Lists.{all, any, keep, isIn, from}
-use Rattle.laws.proofs.Cases.{by-bool, by-lt, by-eq}
+use Rattle.laws.proofs.Cases.{by-bool, by-lt, by-eq, same-test}
+use Rattle.laws.proofs.Lists.{keep-in, from-long}
 use Rattle.entity.specs.Limits.{blockLimit}
 use Rattle.bits.specs.Sets.{has, setOf}
 use Rattle.bits.specs.declared.sets.NumberSet.{NumberSet}
 use Rattle.bits.proofs.Members.{has-setOf, setOf-same}
 use Rattle.rules.specs.Sheet.{Sheet, ListRow, blockCount, succsOf, listAt}
 use Rattle.rules.specs.Accept.{isEntry, blocksFrom0, blockExists, further, reachedIn, eachIn, allReached, Reached, entry, next}
+use Rattle.rules.proofs.Refusals.{in-limits, all-named, each-named}
 use Rattle.table.specs.Rows.{countIn}
 use Rattle.table.specs.Sheet.{sheetIn}
 use Rattle.table.specs.Index.{Ready}
 use Rattle.table.proofs.Loops.{and-left, and-right, and-both, never, all-at, all-each, any-hit}
-use Rattle.table.proofs.Sheets.{from-long}
 use Rattle.table.proofs.Beginnings.{from-at}
-use Rattle.table.proofs.Lookups.{few-blocks, all-named, succs-named}
+use Rattle.table.proofs.Sheets.{blocks-counted}
 use Rattle.accept.specs.Blocks.{reachSet}
-use Rattle.accept.proofs.Blockwise.{blocks-start, blocks-long}
-
--- two tests of which each says the other
-pub same-bool : (a b : Bool) → (a ≡ true → b ≡ true) → (b ≡ true → a ≡ true) → a ≡ b
-same-bool true true f g = refl
-same-bool true false f g = sym (f refl)
-same-bool false true f g = g refl
-same-bool false false f g = refl
+use Rattle.accept.proofs.Blockwise.{blocks-start}
 
 pub or-cases : {C : Type 0} (a b : Bool) → (a || b) ≡ true → (a ≡ true → C) → (b ≡ true → C) → C
 or-cases true b e f g = f refl
@@ -64,31 +59,7 @@ in-any f l x p q =
     let z : x ≡ getD l (w .0) 0 = eqb-true x (getD l (w .0) 0) (w .2) in
     any-hit f 0 l (w .0) (w .1) (rw z at q)
 
--- ---- the numbers below n that pass a test
-
-module _ (f : ℕ → Bool) where
-  keep-low : (a n k : ℕ) → k < a → isIn k (keep f (from a n)) ≡ false
-  unfolding isIn any keep from
-  keep-low a zero k h = refl
-  keep-low a (suc n) k h =
-      by-bool (f a) (λ e. rw (e, ne-eqb k a (λ q. omega arith)) (keep-low (suc a) n k (omega arith))) (λ e. rw e (keep-low (suc a) n k (omega arith)))
-
-  keep-from : (a n k : ℕ) → a ≤ k → isIn k (keep f (from a n)) ≡ (ltb k (a + n) && f k)
-  unfolding isIn any keep from
-  keep-from a zero k h = rw (le-ltb k (a + 0) (omega arith))
-  keep-from a (suc n) k h =
-      by-eq k a
-      (λ q.
-      by-bool (f a)
-      (λ e. rw (e, eq-eqb k a q, lt-ltb k (a + suc n) (omega arith), q, e))
-      (λ e. let z : f k ≡ false = ap f q ∙ e in rw (e, z, and-false) (keep-low (suc a) n k (omega arith))))
-      (λ d.
-      let m : suc a + n ≡ a + suc n = omega arith in
-      let rest = keep-from (suc a) n k (omega arith) in
-      by-bool (f a) (λ e. rw (e, ne-eqb k a d, ← m) rest) (λ e. rw (e, ← m) rest))
-
-  pub keep-in : (n k : ℕ) → isIn k (keep f (from 0 n)) ≡ (ltb k n && f k)
-  keep-in n k = keep-from 0 n k (omega arith) ∙ ap (λ (m : ℕ). ltb k m && f k) (omega arith)
+-- ---- the numbers below n
 
 pub from-hit : (f : ℕ → Bool) (n x : ℕ) → x < n → f x ≡ true → any f (from 0 n) ≡ true
 from-hit f n x h e =
@@ -148,7 +119,7 @@ module _ (sh : Sheet) where
   -- the successors' test, over all blocks
   pub succs-any : (m k : ℕ) → any (λ a. isIn a (R m) && isIn k (succsOf sh a)) (from 0 n) ≡ any (λ a. isIn k (succsOf sh a)) (R m)
   succs-any m k =
-      same-bool _ _
+      same-test _ _
       (λ e.
       let w = from-some (λ a. isIn a (R m) && isIn k (succsOf sh a)) n e in
       let p : isIn (w .0) (R m) ≡ true = and-left (isIn (w .0) (R m)) (isIn k (succsOf sh (w .0))) (w .2) in
@@ -196,25 +167,25 @@ module _ {t : List ℕ} (g : Ready t) where
   sh = sheetIn t
 
   few : blockCount sh ≤ blockLimit
-  few = few-blocks sh (g .limits)
+  few = in-limits sh (g .limits) .few-blocks
 
   succ-below : (a k : ℕ) → isIn k (succsOf sh a) ≡ true → k < blockCount sh
-  succ-below a k e = ltb-true k (blockCount sh) (listed-in sh (λ s. blockExists sh (s .at)) (blockExists sh) (sh .succs) a k (succs-named sh (all-named sh (g .names))) e)
+  succ-below a k e = ltb-true k (blockCount sh) (listed-in sh (λ s. blockExists sh (s .at)) (blockExists sh) (sh .succs) a k (each-named sh (all-named sh (g .names)) .succs) e)
 
   -- membership in the set of those reached
   pub reach-has : (s : NumberSet) (m b c : ℕ) → s ≡ reachSet sh m → c ≡ countIn t 6 → b < c → has s b ≡ isIn b (reachedIn sh m)
   unfolding reachSet
-  reach-has s m b c e q h = rw e (has-setOf (λ k. isIn k (reachedIn sh m)) b (omega (arith, few, blocks-long t c q)))
+  reach-has s m b c e q h = rw e (has-setOf (λ k. isIn k (reachedIn sh m)) b (omega (arith, few, blocks-counted t q)))
 
   pub each-start : (m c : ℕ) → c ≡ countIn t 6 → all (λ b. isIn b (reachedIn sh m)) (from 0 (c - 0)) ≡ eachIn sh (reachedIn sh m)
   unfolding eachIn
   each-start m c e = blocks-start t (λ b. isIn b (reachedIn sh m)) c e
 
   pub reached-early : (m c : ℕ) → c ≡ countIn t 6 → m ≤ c → {r : Bool} → r ≡ eachIn sh (reachedIn sh m) → r ≡ true → true ≡ allReached sh
-  reached-early m c q l e z = sym (each-later sh m (omega (arith, blocks-long t c q)) (sym e ∙ z))
+  reached-early m c q l e z = sym (each-later sh m (omega (arith, blocks-counted t q)) (sym e ∙ z))
 
   pub reached-last : (m c : ℕ) → c ≡ countIn t 6 → m ≤ c → c ≤ m → {r : Bool} → r ≡ eachIn sh (reachedIn sh m) → r ≡ allReached sh
-  reached-last m c q l u e = e ∙ all-reached sh m (omega (arith, blocks-long t c q))
+  reached-last m c q l u e = e ∙ all-reached sh m (omega (arith, blocks-counted t q))
 
   -- the entries up to b
   abbrev pub Entries : ℕ → NumberSet → Type 0
@@ -242,7 +213,7 @@ module _ {t : List ℕ} (g : Ready t) where
 
   pub entries-end : (s : NumberSet) (b c : ℕ) → c ≡ countIn t 6 → b ≤ c → c ≤ b → Entries b s → s ≡ reachSet sh 0
   unfolding reachSet
-  entries-end s b c q l u i = let z : b ≡ blockCount sh = omega (arith, blocks-long t c q) in rw z at i ∙ setOf-same (λ k. ltb k (blockCount sh) && isEntry sh k) (λ k. isIn k (reachedIn sh 0)) (λ k h. sym (reached-start sh k))
+  entries-end s b c q l u i = let z : b ≡ blockCount sh = omega (arith, blocks-counted t q) in rw z at i ∙ setOf-same (λ k. ltb k (blockCount sh) && isEntry sh k) (λ k. isIn k (reachedIn sh 0)) (λ k h. sym (reached-start sh k))
 
   -- one step further, from the blocks up to b
   abbrev stepped : ℕ → ℕ → ℕ → Bool
@@ -270,7 +241,7 @@ module _ {t : List ℕ} (g : Ready t) where
   pub stepped-end : (m : ℕ) (s : NumberSet) (b c : ℕ) → c ≡ countIn t 6 → b ≤ c → c ≤ b → Stepped m b s → s ≡ reachSet sh (m + 1)
   unfolding reachSet
   stepped-end m s b c q l u i =
-      let z : b ≡ blockCount sh = omega (arith, blocks-long t c q) in
+      let z : b ≡ blockCount sh = omega (arith, blocks-counted t q) in
       rw z at i
       ∙ setOf-same (stepped m (blockCount sh)) (λ k. isIn k (reachedIn sh (m + 1)))
       (λ k h.
@@ -316,11 +287,6 @@ holds false e = never e
 
 held : (b : Bool) → T b → b ≡ true
 held true x = refl
-
-keep-most : {A : Type 0} (f : A → Bool) (l : List A) → length (keep f l) ≤ length l
-unfolding keep
-keep-most f [] = omega arith
-keep-most f (x ∷ l) = by-bool (f x) (λ e. rw e (omega (arith, keep-most f l))) (λ e. rw e (omega (arith, keep-most f l)))
 
 keep-all : {A : Type 0} (l : List A) → keep (λ x. true) l ≡ l
 unfolding keep

@@ -1,12 +1,12 @@
 // Refusal 5: the operand rules. What an operand names is there, as 3 holds.
 ghost use mathlib.Core.Path.{_≡_};
-ghost use Rattle.rules.specs.Sheet.{Sheet, is};
-ghost use Rattle.rules.specs.Accept.{samePlace, inClass, reuseHolds, constraintHolds, fixedHolds, beginsGroup, groupHolds, operandsHold};
+ghost use Rattle.rules.specs.Sheet.{Sheet, isUse, isUseGroup};
+ghost use Rattle.rules.specs.Accept.{samePlace, kindsMatch, isFixed, inClass, reuseHolds, constraintHolds, fixedHolds, beginsGroup, groupAt, groupHolds, operandsHold};
 ghost use Rattle.table.specs.Sheet.{sheetIn};
 ghost use Rattle.table.specs.Index.{Ready};
 ghost use Rattle.table.specs.View.{groupRow};
 ghost use Rattle.operands.specs.Operands.{asRow};
-ghost use Rattle.accept.specs.Operands.{isClass, isFixed, kindsMatch, reuses, groupIs, groupAt, operandHolds};
+ghost use Rattle.accept.specs.Operands.{isClass, reuses, groupIs, operandHolds};
 use entity::forms::Constraint;
 use entity::forms::OperandKind;
 use entity::forms::Place;
@@ -66,7 +66,7 @@ fn is_class(c: Constraint) -> bool
 }
 
 fn is_use(k: OperandKind) -> bool
-    ensures { λ x. ⌜ x ≡ is "use" k ⌝ }
+    ensures { λ x. ⌜ x ≡ isUse k ⌝ }
 {
     match k {
         OperandKind::Use(_) => true,
@@ -80,7 +80,7 @@ fn is_use(k: OperandKind) -> bool
 }
 
 fn is_use_group(k: OperandKind) -> bool
-    ensures { λ x. ⌜ x ≡ is "useg" k ⌝ }
+    ensures { λ x. ⌜ x ≡ isUseGroup k ⌝ }
 {
     match k {
         OperandKind::UseGroup(_) => true,
@@ -142,7 +142,7 @@ fn constraint_holds(t: &[u32], o: Operand) -> bool
     let p = o.place;
     match c {
         Constraint::Class(c) => in_class(t, c, p),
-        Constraint::Fixed(r) => same_place(p, Place::Reg(r)),
+        Constraint::Fixed(r) => same_place(p, Place::reg(r)),
         Constraint::Reuse(k) => reuses(t, o, k),
     }
 }

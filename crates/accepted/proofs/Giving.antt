@@ -1,24 +1,24 @@
--- Each rule of 2 to 6 out of the checks. Assumes nothing.
+-- For the theorem `accepted_gives`: each rule of 2 to 6 out of the checks. Assumes nothing.
 use mathlib.Core.Path.{_≡_, refl, sym, _∙_, ap}
 use mathlib.Core.Bool.{Bool, true, false, cond, not, _&&_, _||_, false≢true}
 use mathlib.Core.List.{List, [], _∷_}
-use mathlib.Core.Option.{Option, none, some, Option·elim}
+use mathlib.Core.Option.{none, some, Option·elim}
 use Prim.Native.Nat.{ℕ, _+_, _≤_, _<_}
 use native.Mathlib.Omega.{arith}
 use lib.Dec.{eqb, leb, ltb}
 use lib.ListN.{length, getD}
 use borrow.Author.Tests.{ltb-true, leb-true, eqb-true, eq-eqb, lt-leb}
 use Rattle.laws.specs.Lists.{all, any, isIn, from}
-use Rattle.laws.proofs.Cases.{by-bool}
+use Rattle.laws.proofs.Cases.{by-bool, some-ne-none}
+use Rattle.laws.proofs.Lists.{from-long}
 use Rattle.entity.specs.declared.forms.Refusal.{Refusal}
 use Rattle.entity.specs.declared.forms.Refusal.the-variants.{Limits, Names, Blocks, Operands, Edits}
 use Rattle.rules.specs.Sheet.{Sheet, OpRow, blockCount, blockRow, succsOf, predsOf}
 use Rattle.rules.specs.Accept.{withinLimits, namesHold, allNamed, noneTwice, headsApart, blocksHold, isEntry, someEntry, noneEmpty, listsAgree, entriesFirst, noCriticalEdge, solePredsSmaller, idomsSmaller, allReached, operandsHold, constraintHolds, fixedHolds, groupHolds, editsHold, inOrder, placed, paired, editsIn, pairHolds}
 use Rattle.rules.specs.Answer.{firstRefusal, checks}
+use Rattle.rules.proofs.Refusals.{in-limits}
 use Rattle.table.proofs.Loops.{and-left, and-right, all-at}
 use Rattle.table.proofs.Beginnings.{from-at}
-use Rattle.table.proofs.Sheets.{from-long}
-use Rattle.names.proofs.Within.{Within, within}
 use Rattle.accept.proofs.Reaching.{reached-by-steps}
 use Rattle.accepted.specs.Accepted.{Accepted}
 
@@ -53,9 +53,6 @@ module _ {A : Type 0} (f g : A → Bool) where
       rw (and-right (f x) (g x) p) (all-right l (and-right (f x && g x) (all (λ x. f x && g x) l) e))
 
 -- ---- the checks
-
-some-ne-none : {A C : Type 0} {a : A} {o : Option A} → o ≡ some a → o ≡ none → C
-some-ne-none e f = let z : _≡_ {A = ℕ} 0 1 = cc in absurd (omega arith)
 
 pub record Passed (sh : Sheet) : Type 0 where
   pub limits : withinLimits sh ≡ true
@@ -163,7 +160,7 @@ pub gives : (sh : Sheet) → firstRefusal (checks sh) ≡ none → Accepted sh
 unfolding namesHold operandsHold editsHold
 gives sh e =
     let p = passed sh e in
-    let w = within sh (p .limits) in
+    let w = in-limits sh (p .limits) in
     let r = rules sh (p .blocks) in
     let named = and-left (allNamed sh && noneTwice sh) (headsApart (sh .groups)) (p .names) in
     let two : OpRow → Bool = λ o. constraintHolds sh o && fixedHolds sh o in

@@ -1,4 +1,4 @@
--- What is written is the answer, and its length fits 64 bits. Assumes nothing.
+-- For `render` of src/rows.rt: what is written is the answer (`output` of rules/specs/Answer.antt), and its length fits 64 bits. Assumes nothing.
 use mathlib.Core.Path.{_≡_, refl, sym, ap, ap₂, _∙_}
 use mathlib.Core.List.{List, [], _∷_, map, flatMap, zip, map-map}
 use Prim.Native.Nat.{ℕ, _-_, _≤_, _<_}
@@ -7,6 +7,7 @@ use native.Mathlib.Omega.{arith}
 use lib.ListN.{length, getD, take}
 use lib.Seq.{ext-getD, length-take-le, getD-take}
 use Rattle.laws.specs.Lists.{from}
+use Rattle.laws.proofs.Lists.{flat-map}
 use Rattle.entity.specs.Limits.{instLimit}
 use Rattle.entity.specs.declared.forms.Edit.{Edit}
 use Rattle.entity.specs.declared.forms.Edit.the-variants.{Nothing}
@@ -28,7 +29,6 @@ use Rattle.answer.specs.Rows.{editAt, countLine, rendered, Stands}
 use Rattle.table.specs.Written.{EditCells}
 use Rattle.answer.proofs.Laying.{laid-as}
 use Rattle.answer.proofs.Cells.{field-number, edit-text}
-use Rattle.answer.proofs.Lines.{flat-map}
 use Rattle.answer.proofs.Runs.{flat-within}
 use Rattle.answer.proofs.Folds.{folds-are}
 use Rattle.answer.proofs.Few.{Narrow, answer-few}
@@ -97,7 +97,7 @@ counts-written cs counts e h =
 pub answer-is : {t edits places counts : List ℕ} {w : Walk} → Stands t edits places counts w → rendered t edits places counts ≡ output (sheetIn t) w
 unfolding rendered output
 answer-is {t} {edits} {places} {counts} {w} x =
-    sym (rw (folds-are (x .ready) w places (x .is-places) (x .place-cells), edits-written (x .ready) edits (w .edits) (x .is-edits) (x .edit-cells), counts-written (w .counts) counts (x .is-counts) (x .enough)))
+    sym (rw (folds-are (x .ready) w places (x .in-cells .is-places) (x .in-cells .place-cells), edits-written (x .ready) edits (w .edits) (x .in-cells .is-edits) (x .in-cells .edit-cells), counts-written (w .counts) counts (x .is-counts) (x .enough)))
 
 -- and where it lies
 module _ (t edits places counts out new : List ℕ) (r : ℕ) where

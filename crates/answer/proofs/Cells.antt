@@ -1,4 +1,4 @@
--- The text of each kind of cell, and of the cells of a place and of an edit. Assumes nothing.
+-- For `put_cell` and `put_word` of src/text.rt: the text of each kind of cell, and of the cells of a place and of an edit. Assumes nothing.
 use mathlib.Core.Path.{_≡_, refl, sym, _∙_}
 use mathlib.Core.List.{_∷_, map}
 use Prim.Native.Nat.{ℕ, _-_, _*_, _/_, _%_, _<_, _≤_}
@@ -12,8 +12,9 @@ use Rattle.entity.specs.declared.forms.Place.{Place}
 use Rattle.entity.specs.declared.forms.Place.the-variants.{Reg, Slot}
 use Rattle.entity.specs.declared.forms.Edit.{Edit}
 use Rattle.entity.specs.declared.forms.Edit.the-variants.{Move, Remat, Espill, Ereload, Misplaced, Nothing}
+use Rattle.rules.specs.Words.{ereloadWord, espillWord, moveWord, noneWord, rematWord}
 use Rattle.rules.specs.Text.{bytes}
-use Rattle.rules.specs.Cells.{digitsOf, fieldOf, marks, words, word, find}
+use Rattle.rules.specs.Cells.{digitsOf, fieldOf, marks, words, word, find, numberLimit, regMark, slotMark}
 use Rattle.rules.specs.Sheet.{placeOf}
 use Rattle.rules.specs.Accept.{samePlace}
 use Rattle.rules.specs.Answer.{placeCell, editCells}
@@ -22,53 +23,53 @@ use Rattle.answer.specs.Text.{wordText, cellText}
 use Rattle.table.specs.Written.{SmallValue, PlaceCell}
 
 module _ (c : ℕ) where
-  pub cell-number : c < 100000 → digitsOf c ≡ cellText c
+  pub cell-number : c < numberLimit → digitsOf c ≡ cellText c
   unfolding cellText
-  cell-number h = rw (lt-ltb c 100000 h)
+  cell-number h = rw (lt-ltb c numberLimit h)
 
-  pub cell-word : 100000 ≤ c → c < 200000 → wordText c ≡ cellText c
+  pub cell-word : numberLimit ≤ c → c < regMark → wordText c ≡ cellText c
   unfolding cellText
-  cell-word h l = rw (le-ltb c 100000 h, lt-ltb c 200000 l)
+  cell-word h l = rw (le-ltb c numberLimit h, lt-ltb c regMark l)
 
-  pub cell-reg : 200000 ≤ c → c < 300000 → 114 ∷ digitsOf (c - 200000) ≡ cellText c
+  pub cell-reg : regMark ≤ c → c < slotMark → 114 ∷ digitsOf (c - regMark) ≡ cellText c
   unfolding cellText
-  cell-reg h l = rw (le-ltb c 100000 (omega arith), le-ltb c 200000 h, lt-ltb c 300000 l)
+  cell-reg h l = rw (le-ltb c numberLimit (omega arith), le-ltb c regMark h, lt-ltb c slotMark l)
 
-  pub cell-slot : 300000 ≤ c → 115 ∷ digitsOf (c - 300000) ≡ cellText c
+  pub cell-slot : slotMark ≤ c → 115 ∷ digitsOf (c - slotMark) ≡ cellText c
   unfolding cellText
-  cell-slot h = rw (le-ltb c 100000 (omega arith), le-ltb c 200000 (omega arith), le-ltb c 300000 h)
+  cell-slot h = rw (le-ltb c numberLimit (omega arith), le-ltb c regMark (omega arith), le-ltb c slotMark h)
 
-  pub word-other : (c ≡ 100021 → ⊥) → (c ≡ 100022 → ⊥) → (c ≡ 100023 → ⊥) → (c ≡ 100024 → ⊥) → (c ≡ 100025 → ⊥) → bytes "-" ≡ wordText c
+  pub word-other : (c ≡ moveWord → ⊥) → (c ≡ rematWord → ⊥) → (c ≡ espillWord → ⊥) → (c ≡ ereloadWord → ⊥) → (c ≡ noneWord → ⊥) → bytes "-" ≡ wordText c
   unfolding wordText
-  word-other a b d e f = rw (ne-eqb c 100021 a, ne-eqb c 100022 b, ne-eqb c 100023 d, ne-eqb c 100024 e, ne-eqb c 100025 f)
+  word-other a b d e f = rw (ne-eqb c moveWord a, ne-eqb c rematWord b, ne-eqb c espillWord d, ne-eqb c ereloadWord e, ne-eqb c noneWord f)
 
 -- ---- it is what the rules say
 
-pub field-number : (c : ℕ) → c < 100000 → fieldOf c ≡ cellText c
+pub field-number : (c : ℕ) → c < numberLimit → fieldOf c ≡ cellText c
 unfolding fieldOf cellText
-field-number c h = rw (lt-ltb c 100000 h)
+field-number c h = rw (lt-ltb c numberLimit h)
 
-marked : (k c m : ℕ) → c / 100000 ≡ k → getD marks (k - 2) 0 ≡ m → 2 ≤ k → fieldOf c ≡ m ∷ digitsOf (c - k * 100000)
+marked : (k c m : ℕ) → c / numberLimit ≡ k → getD marks (k - 2) 0 ≡ m → 2 ≤ k → fieldOf c ≡ m ∷ digitsOf (c - k * numberLimit)
 unfolding fieldOf
 marked k c m e q h =
-    let l : 200000 ≤ c = omega (arith, div-add-mod' c 100000) in
-    let r : c % 100000 ≡ c - k * 100000 = omega (arith, div-add-mod' c 100000) in
-    rw (le-ltb c 100000 (omega arith), le-ltb c 200000 l, e, q, r)
+    let l : regMark ≤ c = omega (arith, div-add-mod' c numberLimit) in
+    let r : c % numberLimit ≡ c - k * numberLimit = omega (arith, div-add-mod' c numberLimit) in
+    rw (le-ltb c numberLimit (omega arith), le-ltb c regMark l, e, q, r)
 
 pub field-place : (c : ℕ) → PlaceCell c → fieldOf c ≡ cellText c
 unfolding marks bytes
 field-place c h =
-    by-lt c 300000
-    (λ l. marked 2 c 114 (omega (arith, div-add-mod' c 100000, mod-lt c {m = 100000} (omega arith))) refl (omega arith) ∙ cell-reg c (h .0) l)
-    (λ l. marked 3 c 115 (omega (arith, div-add-mod' c 100000, mod-lt c {m = 100000} (omega arith))) refl (omega arith) ∙ cell-slot c l)
+    by-lt c slotMark
+    (λ l. marked 2 c 114 (omega (arith, div-add-mod' c numberLimit, mod-lt c {m = numberLimit} (omega arith))) refl (omega arith) ∙ cell-reg c (h .0) l)
+    (λ l. marked 3 c 115 (omega (arith, div-add-mod' c numberLimit, mod-lt c {m = numberLimit} (omega arith))) refl (omega arith) ∙ cell-slot c l)
 
 -- a place's cell
-pub cell-of-place : (c : ℕ) → 200000 ≤ c → placeCell (placeOf c) ≡ c
+pub cell-of-place : (c : ℕ) → regMark ≤ c → placeCell (placeOf c) ≡ c
 unfolding placeCell placeOf
 cell-of-place c h =
-    by-lt c 300000
-    (λ l. rw (lt-ltb c 300000 l) (omega arith))
-    (λ l. rw (le-ltb c 300000 l) (omega arith))
+    by-lt c slotMark
+    (λ l. rw (lt-ltb c slotMark l) (omega arith))
+    (λ l. rw (le-ltb c slotMark l) (omega arith))
 
 pub place-within : (p : Place) → SmallPlace p → PlaceCell (placeCell p)
 unfolding placeCell
@@ -76,18 +77,18 @@ place-within (Reg r) h = (omega arith, omega arith)
 place-within (Slot s) h = (omega arith, omega arith)
 
 -- two place's cells are equal where their places are
-pub same-place : (a b : ℕ) → 200000 ≤ a → 200000 ≤ b → samePlace (placeOf a) (placeOf b) ≡ eqb a b
+pub same-place : (a b : ℕ) → regMark ≤ a → regMark ≤ b → samePlace (placeOf a) (placeOf b) ≡ eqb a b
 unfolding samePlace placeOf
 same-place a b h k =
-    by-lt a 300000
+    by-lt a slotMark
     (λ l.
-    by-lt b 300000
-    (λ m. rw (lt-ltb a 300000 l, lt-ltb b 300000 m) (eqb-same (a - 200000) (b - 200000) a b (λ e. omega arith) (λ e. omega arith)))
-    (λ m. rw (lt-ltb a 300000 l, le-ltb b 300000 m) (sym (ne-eqb a b (λ e. omega arith)))))
+    by-lt b slotMark
+    (λ m. rw (lt-ltb a slotMark l, lt-ltb b slotMark m) (eqb-same (a - regMark) (b - regMark) a b (λ e. omega arith) (λ e. omega arith)))
+    (λ m. rw (lt-ltb a slotMark l, le-ltb b slotMark m) (sym (ne-eqb a b (λ e. omega arith)))))
     (λ l.
-    by-lt b 300000
-    (λ m. rw (le-ltb a 300000 l, lt-ltb b 300000 m) (sym (ne-eqb a b (λ e. omega arith))))
-    (λ m. rw (le-ltb a 300000 l, le-ltb b 300000 m) (eqb-same (a - 300000) (b - 300000) a b (λ e. omega arith) (λ e. omega arith))))
+    by-lt b slotMark
+    (λ m. rw (le-ltb a slotMark l, lt-ltb b slotMark m) (sym (ne-eqb a b (λ e. omega arith))))
+    (λ m. rw (le-ltb a slotMark l, le-ltb b slotMark m) (eqb-same (a - slotMark) (b - slotMark) a b (λ e. omega arith) (λ e. omega arith))))
 
 -- the cells of an edit
 place-text : (p : Place) → SmallPlace p → fieldOf (placeCell p) ≡ cellText (placeCell p)

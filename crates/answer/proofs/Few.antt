@@ -1,4 +1,4 @@
--- How long what is written can be. Assumes nothing.
+-- For `render` of src/rows.rt: how long what is written can be. Assumes nothing.
 use mathlib.Core.Path.{_≡_, refl}
 use mathlib.Core.Bool.{Bool, true, false, cond}
 use mathlib.Core.List.{List, [], _∷_, _++_, map, flatMap}
@@ -9,10 +9,12 @@ use lib.Dec.{eqb, ltb}
 use lib.ListN.{length, getD, length-append}
 use Rattle.laws.specs.Lists.{from}
 use Rattle.entity.specs.Limits.{instLimit}
+use Rattle.rules.specs.Words.{ereloadWord, espillWord, moveWord, noneWord, rematWord}
 use Rattle.rules.specs.Text.{bytes}
-use Rattle.rules.specs.Cells.{digitsOf}
+use Rattle.rules.specs.Cells.{digitsOf, numberLimit, regMark, slotMark}
 use Rattle.rules.specs.Rows.{lineOf}
 use Rattle.rules.specs.Sheet.{field}
+use Rattle.table.specs.Layout.{kindIndex, opIndex, rowLimit, editWidth}
 use Rattle.table.specs.Rows.{countIn, kindRow}
 use Rattle.table.specs.Sheet.{sheetIn}
 use Rattle.table.specs.Index.{Ready, rangeIn}
@@ -33,16 +35,16 @@ few false x y n h k = k
 word-few : (c : ℕ) → length (wordText c) ≤ 7
 unfolding wordText bytes
 word-few c =
-    few (eqb c 100021) _ _ 7 (omega arith)
-    (few (eqb c 100022) _ _ 7 (omega arith)
-    (few (eqb c 100023) _ _ 7 (omega arith) (few (eqb c 100024) _ _ 7 (omega arith) (few (eqb c 100025) _ _ 7 (omega arith) (omega arith)))))
+    few (eqb c moveWord) _ _ 7 (omega arith)
+    (few (eqb c rematWord) _ _ 7 (omega arith)
+    (few (eqb c espillWord) _ _ 7 (omega arith) (few (eqb c ereloadWord) _ _ 7 (omega arith) (few (eqb c noneWord) _ _ 7 (omega arith) (omega arith)))))
 
 cell-few : (c : ℕ) → length (cellText c) ≤ c + 7
 unfolding cellText
 cell-few c =
-    few (ltb c 100000) _ _ (c + 7) (omega (arith, few-digits c))
-    (few (ltb c 200000) _ _ (c + 7) (omega (arith, word-few c))
-    (few (ltb c 300000) _ _ (c + 7) (omega (arith, few-digits (c - 200000))) (omega (arith, few-digits (c - 300000)))))
+    few (ltb c numberLimit) _ _ (c + 7) (omega (arith, few-digits c))
+    (few (ltb c regMark) _ _ (c + 7) (omega (arith, word-few c))
+    (few (ltb c slotMark) _ _ (c + 7) (omega (arith, few-digits (c - regMark))) (omega (arith, few-digits (c - slotMark)))))
 
 -- fields with a comma before each
 abbrev total : List (List ℕ) → ℕ
@@ -70,8 +72,8 @@ abbrev pub Narrow : List ℕ → Type 0
 Narrow l = (i : ℕ) → getD l i 0 < 4294967296
 
 module _ {t : List ℕ} (g : Ready t) where
-  count-few : (k : ℕ) → k < 13 → countIn t k ≤ 21845
-  count-few k h = let e : 54616 + k + 1 ≡ 54616 + (k + 1) = omega arith in rw e (omega (arith, begin-within (g .held) (k + 1) (omega arith), g .held .held .few-rows))
+  count-few : (k : ℕ) → k < 13 → countIn t k ≤ rowLimit
+  count-few k h = let e : kindIndex + k + 1 ≡ kindIndex + (k + 1) = omega arith in rw e (omega (arith, begin-within (g .held) (k + 1) (omega arith), g .held .held .few-rows))
 
   fold-few : (places : List ℕ) → Narrow places → (n : ℕ) → n < countIn t 10 → length (foldAt t places n) ≤ 30000000000
   unfolding foldAt foldLine bytes
@@ -79,7 +81,7 @@ module _ {t : List ℕ} (g : Ready t) where
       let row : List ℕ = kindRow t 10 n in
       let x : ℕ = field 1 row in
       let c : ℕ = getD places n 0 in
-      let o : ℕ = n - rangeIn t 54952 instLimit x .from in
+      let o : ℕ = n - rangeIn t opIndex instLimit x .from in
       let u : x < instLimit = rw (rows-at t 10 n) at (ops-below g n (rw (rows-long t 10) h)) in
       few (eqb c (field 5 row)) [] (lineOf (bytes "fold" ∷ digitsOf x ∷ digitsOf o ∷ cellText c ∷ [])) 30000000000 (omega arith)
       (omega (arith, line-few (bytes "fold") (digitsOf x ∷ digitsOf o ∷ cellText c ∷ []), few-digits x, few-digits o, cell-few c, p n, count-few 10 (omega arith)))
@@ -93,14 +95,14 @@ module _ (t edits : List ℕ) (p : Narrow edits) where
         arith,
         line-few (bytes "edit") (map cellText (x ∷ fourIn edits n)),
         cell-few x,
-        cell-few (getD edits (n * 4) 0),
-        cell-few (getD edits (n * 4 + 1) 0),
-        cell-few (getD edits (n * 4 + 2) 0),
-        cell-few (getD edits (n * 4 + 3) 0),
-        p (n * 4),
-        p (n * 4 + 1),
-        p (n * 4 + 2),
-        p (n * 4 + 3),
+        cell-few (getD edits (n * editWidth) 0),
+        cell-few (getD edits (n * editWidth + 1) 0),
+        cell-few (getD edits (n * editWidth + 2) 0),
+        cell-few (getD edits (n * editWidth + 3) 0),
+        p (n * editWidth),
+        p (n * editWidth + 1),
+        p (n * editWidth + 2),
+        p (n * editWidth + 3),
       )
 
 counts-few : (counts : List ℕ) → Narrow counts → length (countLine counts) ≤ 40000000000

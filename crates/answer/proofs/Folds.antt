@@ -1,4 +1,4 @@
--- The folds that the definition takes instruction by instruction are those of the operand rows in their order. Assumes nothing.
+-- For `put_folds` of src/rows.rt: the folds that the definition takes instruction by instruction are those of the operand rows in their order. Assumes nothing.
 use mathlib.Core.Path.{_≡_, sym, ap, ap₂, _∙_}
 use mathlib.Core.Bool.{_&&_}
 use mathlib.Core.List.{List, [], map, flatMap, zip, zipWith}
@@ -9,6 +9,7 @@ use lib.Dec.{eqb}
 use lib.ListN.{length, getD, length-map}
 use borrow.Author.Tests.{lt-ltb, ltb-true, eq-eqb, ne-eqb}
 use Rattle.laws.specs.Lists.{keep, from}
+use Rattle.laws.proofs.Lists.{zipped, from-long}
 use Rattle.entity.specs.Limits.{instLimit}
 use Rattle.entity.specs.declared.forms.Place.{Place}
 use Rattle.rules.specs.Rows.{first}
@@ -16,19 +17,21 @@ use Rattle.rules.specs.Sheet.{Sheet, OpRow, field, instCount, placeOf}
 use Rattle.rules.specs.Accept.{instExists, subjectExists, constraintExists, placeExists}
 use Rattle.rules.specs.Forward.{Walk, indexed}
 use Rattle.rules.specs.Answer.{foldRow}
+use Rattle.rules.proofs.Refusals.{all-named, each-named}
+use Rattle.table.specs.Layout.{opIndex}
 use Rattle.table.specs.Rows.{countIn, kindRow}
 use Rattle.table.specs.Sheet.{rowsAt, sheetIn}
 use Rattle.table.specs.Index.{Ready, before, rangeIn}
 use Rattle.table.specs.Edits.{placeIn, placesIn}
 use Rattle.table.proofs.Loops.{and-left, all-at, keep-map}
-use Rattle.table.proofs.Sheets.{opRowOf, ops-are, long-of, within-of, rows-at, rows-long, from-long}
+use Rattle.table.proofs.Sheets.{opRowOf, ops-are, long-of, within-of, rows-at, rows-long}
 use Rattle.table.proofs.Stored.{places-at}
 use Rattle.table.proofs.Orders.{ready-ops}
-use Rattle.table.proofs.Ranges.{before-within}
-use Rattle.table.proofs.Lookups.{all-named, ops-named, ops-below}
+use Rattle.table.proofs.Ranges.{before-within, before-low, before-all}
+use Rattle.table.proofs.Lookups.{ops-below}
 use Rattle.answer.specs.Rows.{foldLine, foldAt}
 use Rattle.table.specs.Written.{PlaceCell}
-use Rattle.answer.proofs.Runs.{keep-between, zipped, numbered, flat-same, stairs, before-up, before-none, before-all, before-below, before-above}
+use Rattle.answer.proofs.Runs.{keep-between, numbered, flat-same, stairs, before-up, before-below, before-above}
 use Rattle.answer.proofs.Cells.{field-place, cell-of-place, same-place}
 use Rattle.answer.proofs.Ops.{op-place}
 
@@ -77,17 +80,17 @@ module _ {t : List ℕ} (g : Ready t) where
       ne-eqb (op n .at) i (λ e. omega (arith, op-at n u, before-above rows (ready-ops g) (i + 1) n x (omega (arith, many-rows))))))
 
   -- where the index says that they begin
-  begin-is : (x : ℕ) → x < instLimit → rangeIn t 54952 instLimit x .from ≡ low x
+  begin-is : (x : ℕ) → x < instLimit → rangeIn t opIndex instLimit x .from ≡ low x
   unfolding rangeIn
   begin-is x h = rw (lt-ltb x instLimit h) (g .built .ops x (omega arith))
 
   -- every row is of an instruction
   insts-hold : low (instCount sh) ≡ countIn t 10
   insts-hold =
-      before-all rows (instCount sh)
+      before-all (instCount sh) rows
       (λ j u.
       let o : OpRow = op j in
-      let p = all-at (λ (o : OpRow). instExists sh (o .at) && subjectExists sh (o .kind) && constraintExists sh (o .constraint) && placeExists sh (o .place)) (opRowOf []) (sh .ops) (ops-named sh (all-named sh (g .names))) j (omega (arith, many, many-rows)) in
+      let p = all-at (λ (o : OpRow). instExists sh (o .at) && subjectExists sh (o .kind) && constraintExists sh (o .constraint) && placeExists sh (o .place)) (opRowOf []) (sh .ops) (each-named sh (all-named sh (g .names)) .ops) j (omega (arith, many, many-rows)) in
       omega (
         arith,
         op-at j (omega (arith, many-rows)),
@@ -111,7 +114,7 @@ module _ {t : List ℕ} (g : Ready t) where
         let c : ℕ = getD places n 0 in
         let s : field 1 row ≡ i = ap first (sym (rows-at t 10 n)) ∙ q in
         let u : field 1 row < instLimit = omega (arith, ops-below g n (omega (arith, many-rows))) in
-        let b : rangeIn t 54952 instLimit (field 1 row) .from ≡ low i = begin-is (field 1 row) u ∙ ap low s in
+        let b : rangeIn t opIndex instLimit (field 1 row) .from ≡ low i = begin-is (field 1 row) u ∙ ap low s in
         let k : PlaceCell c = ok n (omega (arith, many)) in
         let f : PlaceCell (field 5 row) = op-place g n h in
         ap (λ (o : OpRow). foldRow w (n - low i, n, o)) (op-is n h)
@@ -137,7 +140,7 @@ module _ {t : List ℕ} (g : Ready t) where
     pub folds-are : flatMap (λ i. flatMap (foldRow w) (indexed sh i)) (from 0 (instCount sh)) ≡ flatMap (foldAt t places) (from 0 (countIn t 10))
     folds-are =
         let m : ℕ = instCount sh in
-        let z : low 0 ≡ 0 = before-none rows in
+        let z : low 0 ≡ 0 = before-low 0 rows (λ j u. omega arith) in
         let y : low (0 + m) - low 0 ≡ countIn t 10 = rw (zero-add m) (omega (arith, insts-hold, z)) in
         flat-same (λ i. flatMap (foldRow w) (indexed sh i)) (λ i. flatMap (foldAt t places) (from (low i) (low (i + 1) - low i))) (from 0 m) inst-is
         ∙ stairs (foldAt t places) low (before-up rows) m 0 ∙ ap₂ (λ (a n : ℕ). flatMap (foldAt t places) (from a n)) z y

@@ -1,4 +1,4 @@
--- Laws of bytes laid over a buffer. Assumes nothing.
+-- Laws of `over` and `Laid` (specs/Text.antt), bytes laid over a buffer: for every function of src/. Assumes nothing.
 use mathlib.Core.Path.{_≡_, refl, sym, ap, _∙_}
 use mathlib.Core.List.{List, [], _∷_, _++_}
 use Prim.Native.Nat.{ℕ, suc, _+_, _≤_, _<_}
@@ -6,7 +6,7 @@ use native.Mathlib.Nat.{add-zero}
 use native.Mathlib.Numerals.{add-one}
 use native.Mathlib.Omega.{arith}
 use lib.ListN.{length, getD, take, drop, set, length-append}
-use lib.Seq.{sets, sets-eq, length-sets, take-suc}
+use lib.Seq.{sets-eq, take-suc}
 use Rattle.answer.specs.Text.{over, Laid}
 
 -- first a, and then b after it
@@ -21,19 +21,6 @@ over-append (x ∷ a) b out at =
 pub over-fits : (out text : List ℕ) → length text ≤ length out → over out 0 text ≡ text ++ drop (length text) out
 unfolding over
 over-fits out text h = let e : 0 + length text ≡ length text = omega arith in sets-eq text out 0 (rw e h) ∙ rw e
-
-over-none : (at : ℕ) (text : List ℕ) → sets [] at text ≡ []
-over-none at [] = refl
-over-none at (x ∷ text) = over-none (suc at) text
-
--- a buffer of no length stays as it is
-pub over-empty : (at : ℕ) (text : List ℕ) → over [] at text ≡ []
-unfolding over
-over-empty at text = over-none at text
-
-pub over-length : (out text : List ℕ) (at : ℕ) → length (over out at text) ≡ length out
-unfolding over
-over-length out text at = length-sets out at text
 
 -- ---- what functions lay
 

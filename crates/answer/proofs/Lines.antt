@@ -1,4 +1,4 @@
--- Lines of fields, and rows one after the other. Assumes nothing.
+-- For the rows of src/rows.rt: lines of fields, and rows one after the other. Assumes nothing.
 use mathlib.Core.Path.{_≡_, refl, sym, ap, _∙_}
 use mathlib.Core.List.{List, [], _∷_, _++_, map, flatMap, append-assoc, append-nil}
 use Prim.Native.Char.{code}
@@ -9,11 +9,13 @@ use native.Mathlib.Omega.{arith}
 use lib.ListN.{getD}
 use borrow.Author.Tests.{eq-eqb, ne-eqb}
 use Rattle.laws.specs.Lists.{from}
+use Rattle.laws.proofs.Lists.{flat-map}
 use Rattle.entity.specs.Limits.{instLimit}
 use Rattle.rules.specs.Text.{bytes}
 use Rattle.rules.specs.Cells.{digitsOf}
 use Rattle.rules.specs.Rows.{lineOf}
 use Rattle.rules.specs.Sheet.{field}
+use Rattle.table.specs.Layout.{opIndex, editWidth}
 use Rattle.table.specs.Rows.{kindRow}
 use Rattle.table.specs.Sheet.{sheetIn}
 use Rattle.table.specs.Index.{rangeIn}
@@ -51,11 +53,6 @@ laid-rows f n m k h u e p = let z : n ≡ k = omega arith in laid-as (ap (λ (i 
 
 -- ---- fields
 
-pub flat-map : {A B C : Type 0} (f : B → List C) (g : A → B) (l : List A) → flatMap f (map g l) ≡ flatMap (λ x. f (g x)) l
-unfolding flatMap
-flat-map f g [] = refl
-flat-map f g (x ∷ l) = rw (flat-map f g l)
-
 -- a comma before each, and then e
 abbrev joined : List (List ℕ) → List ℕ → List ℕ
 joined [] e = e
@@ -80,16 +77,16 @@ module _ (t places : List ℕ) (n : ℕ) (row : List ℕ) (c x : ℕ) (e : row �
   unfolding foldAt
   fold-none z = rw (eq-eqb (getD places n 0) (field 5 (kindRow t 10 n)) (sym p ∙ z ∙ now-is))
 
-  pub fold-some : (i o : ℕ) (r : Range) → (c ≡ x → ⊥) → i ≡ getD row 1 0 → r ≡ rangeIn t 54952 instLimit i → o ≡ n - r .from → foldLine i o c ≡ foldAt t places n
+  pub fold-some : (i o : ℕ) (r : Range) → (c ≡ x → ⊥) → i ≡ getD row 1 0 → r ≡ rangeIn t opIndex instLimit i → o ≡ n - r .from → foldLine i o c ≡ foldAt t places n
   unfolding foldAt
   fold-some i o r d a b l =
       let ei : i ≡ field 1 (kindRow t 10 n) = a ∙ ap (field 1) e in
-      let eo : o ≡ n - rangeIn t 54952 instLimit (field 1 (kindRow t 10 n)) .from = l ∙ ap (λ (r : Range). n - r .from) (b ∙ ap (rangeIn t 54952 instLimit) ei) in
+      let eo : o ≡ n - rangeIn t opIndex instLimit (field 1 (kindRow t 10 n)) .from = l ∙ ap (λ (r : Range). n - r .from) (b ∙ ap (rangeIn t opIndex instLimit) ei) in
       rw (ne-eqb (getD places n 0) (field 5 (kindRow t 10 n)) (λ z. d (p ∙ z ∙ sym now-is))) (rw (ei, eo, p))
 
 -- ---- edits
 
-pub edit-line : (t edits : List ℕ) (n i k to s v : ℕ) → i ≡ editRow (sheetIn t) n .at → k ≡ getD edits (n * 4) 0 → to ≡ getD edits (n * 4 + 1) 0 → s ≡ getD edits (n * 4 + 2) 0 → v ≡ getD edits (n * 4 + 3) 0
+pub edit-line : (t edits : List ℕ) (n i k to s v : ℕ) → i ≡ editRow (sheetIn t) n .at → k ≡ getD edits (n * editWidth) 0 → to ≡ getD edits (n * editWidth + 1) 0 → s ≡ getD edits (n * editWidth + 2) 0 → v ≡ getD edits (n * editWidth + 3) 0
     → bytes "edit" ++ ((44 ∷ cellText i) ++ ((44 ∷ cellText k) ++ ((44 ∷ cellText to) ++ ((44 ∷ cellText s) ++ ((44 ∷ cellText v) ++ bytes "\r\n"))))) ≡ editAt t edits n
 unfolding editAt fourIn lineOf bytes flatMap
 edit-line t edits n i k to s v a b c d e =

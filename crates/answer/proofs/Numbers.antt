@@ -1,4 +1,4 @@
--- The digits of a number, from its last digit and the number without it. Assumes nothing.
+-- For `put_number` of src/text.rt: the digits of a number, from its last digit and the number without it. Assumes nothing.
 use mathlib.Core.Path.{_≡_, ap, _∙_}
 use mathlib.Core.List.{List, [], _∷_, _++_}
 use Prim.Native.Nat.{ℕ, zero, suc, _+_, _/_, _%_, _≤_, _<_}

@@ -1,4 +1,4 @@
--- The place of an operand row is a place. Assumes nothing.
+-- For `PlaceCell` of table/specs/Written.antt: the place of an operand row of a sheet is a place's cell. Assumes nothing.
 use mathlib.Core.Path.{_≡_, refl, sym, _∙_}
 use mathlib.Core.Bool.{Bool, true, false, _&&_}
 use mathlib.Core.List.{List, [], _∷_}
@@ -10,7 +10,8 @@ use lib.ListN.{length, getD}
 use borrow.Author.Tests.{ltb-true, leb-true, eqb-true}
 use Rattle.laws.specs.Lists.{all, keep}
 use Rattle.laws.proofs.Cases.{by-bool}
-use Rattle.rules.specs.Cells.{word}
+use Rattle.rules.specs.Words.{opWord}
+use Rattle.rules.specs.Cells.{word, classMark, regMark}
 use Rattle.rules.specs.Rows.{Field, number, dash, place, constraint, only, _upTo_, fieldOk, end, _▸_, fits, opShape, kinds, kindFrom, kind, pairsOk, rowOk, sheetOk, reading}
 use Rattle.rules.specs.Sheet.{field}
 use Rattle.table.specs.Rows.{countIn, kindRow}
@@ -45,11 +46,11 @@ op-fits cs e =
     (λ t. fifth number ("def" upTo "earlyg") number constraint cs t)
     (λ t. fifth number (only "fixed") dash constraint cs (rw t at e))
 
-op-kind : (cs : List ℕ) → Option·elim (kindFrom kinds 100011) false (λ k. fits (k .shape) cs) ≡ fits opShape cs
+op-kind : (cs : List ℕ) → Option·elim (kindFrom kinds opWord) false (λ k. fits (k .shape) cs) ≡ fits opShape cs
 unfolding reading
 op-kind cs = refl
 
-op-row : (r : List ℕ) → rowOk r ≡ true → kind r ≡ 100011 → fieldOk place (field 5 r) ≡ true
+op-row : (r : List ℕ) → rowOk r ≡ true → kind r ≡ opWord → fieldOk place (field 5 r) ≡ true
 unfolding rowOk
 op-row [] e q = never e
 op-row (c ∷ cs) e q = op-fits cs (sym (op-kind cs) ∙ rw q at e)
@@ -62,11 +63,11 @@ rows-ok (r ∷ rs) e = and-right (eqb (kind r) (word "slots")) (all rowOk (r ∷
 pub op-place : {t : List ℕ} → Ready t → (n : ℕ) → n < countIn t 10 → PlaceCell (field 5 (kindRow t 10 n))
 unfolding fieldOk
 op-place {t} g n h =
-    let f : List ℕ → Bool = λ r. eqb (kind r) 100011 in
+    let f : List ℕ → Bool = λ r. eqb (kind r) opWord in
     let l : List (List ℕ) = keep f (g .rows) in
     let s : length l ≡ countIn t 10 = sym (count-is (g .held) 10 (omega arith)) in
     let e = all-at (λ r. rowOk r && f r) [] l (keep-both rowOk f (g .rows) (rows-ok (g .rows) (g .ok))) n (omega arith) in
     let r : List ℕ = getD l n [] in
-    let p = op-row r (and-left (rowOk r) (f r) e) (eqb-true (kind r) 100011 (and-right (rowOk r) (f r) e)) in
+    let p = op-row r (and-left (rowOk r) (f r) e) (eqb-true (kind r) opWord (and-right (rowOk r) (f r) e)) in
     rw (kind-row-is (g .held) 10 (omega arith) n)
-    (leb-true 200000 (field 5 r) (and-left (leb 200000 (field 5 r)) (ltb (field 5 r) 400000) p), ltb-true (field 5 r) 400000 (and-right (leb 200000 (field 5 r)) (ltb (field 5 r) 400000) p))
+    (leb-true regMark (field 5 r) (and-left (leb regMark (field 5 r)) (ltb (field 5 r) classMark) p), ltb-true (field 5 r) classMark (and-right (leb regMark (field 5 r)) (ltb (field 5 r) classMark) p))

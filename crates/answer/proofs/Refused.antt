@@ -1,4 +1,4 @@
--- What a program writes of a refusal: 11 bytes. Assumes nothing.
+-- For `render_refused` of src/rows.rt: what a program writes of a refusal, 11 bytes. Assumes nothing.
 use mathlib.Core.Path.{_≡_, refl}
 use mathlib.Core.List.{List, _++_, flatMap}
 use Prim.Native.Nat.{ℕ}

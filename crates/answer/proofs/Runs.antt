@@ -1,7 +1,7 @@
--- Numbers one after the other: those that pass a test, what is written of each, and rows by their first fields. Assumes nothing.
+-- For Folds.antt, numbers one after the other: those that pass a test, what is written of each, and rows by their first fields. Assumes nothing.
 use mathlib.Core.Path.{_≡_, refl, sym, ap, ap₂, _∙_}
 use mathlib.Core.Bool.{Bool, true, false}
-use mathlib.Core.List.{List, [], _∷_, _++_, map, flatMap, zip, zipWith, append-assoc}
+use mathlib.Core.List.{List, [], _∷_, _++_, map, flatMap, zipWith, append-assoc}
 use Prim.Native.Nat.{ℕ, zero, suc, _+_, _-_, _≤_, _<_}
 use native.Mathlib.Nat.{add-zero}
 use native.Mathlib.Numerals.{add-one}
@@ -37,14 +37,6 @@ keep-between p e (suc m) a lo hi q h u v mid low high =
     (λ n x y. high n (omega arith) y) ∙ rw y)))
 
 -- ---- each with its number
-
-pub zipped : {A : Type 0} (g : ℕ → ℕ × A) (d : A) (a : ℕ) (l : List A) → ((j : ℕ) → j < length l → g (a + j) ≡ (a + j, getD l j d)) → zip (from a (length l)) l ≡ map g (from a (length l))
-unfolding from zip
-zipped g d a [] h = refl
-zipped g d a (x ∷ l) h =
-    let z : a + 0 ≡ a = add-zero a in
-    ap₂ (λ (y : _) (r : _). y ∷ r) (sym (rw z at (h 0 (omega arith))))
-    (zipped g d (suc a) l (λ j u. let s : suc a + j ≡ a + suc j = omega arith in rw s (h (suc j) (omega arith))))
 
 -- what is written of each, by its index k from the first, lo, on
 pub numbered : {A B : Type 0} (f : B → List ℕ) (h : ℕ → A → B) (g : ℕ → A) (r : ℕ → List ℕ) (lo c k m : ℕ) → m ≡ lo + k
@@ -93,16 +85,6 @@ unfolding before
 before-up [] x y h = omega arith
 before-up (r ∷ rows) x y h =
     by-lt (first r) x (λ l. rw (lt-ltb (first r) x l, lt-ltb (first r) y (omega arith)) (omega (arith, before-up rows x y h))) (λ l. rw (le-ltb (first r) x l) (omega arith))
-
-pub before-none : (rows : List (List ℕ)) → before 0 rows ≡ 0
-unfolding before
-before-none [] = refl
-before-none (r ∷ rows) = rw (le-ltb (first r) 0 (omega arith))
-
-pub before-all : (rows : List (List ℕ)) (x : ℕ) → ((j : ℕ) → j < length rows → first (getD rows j []) < x) → before x rows ≡ length rows
-unfolding before
-before-all [] x h = refl
-before-all (r ∷ rows) x h = rw (lt-ltb (first r) x (h 0 (omega arith)), before-all rows x (λ j u. h (suc j) (omega arith)), add-one)
 
 pub before-below : (rows : List (List ℕ)) (x n : ℕ) → n < before x rows → first (getD rows n []) < x
 unfolding before

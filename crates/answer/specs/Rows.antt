@@ -2,7 +2,7 @@
 use mathlib.Core.Path.{_≡_}
 use mathlib.Core.Bool.{cond}
 use mathlib.Core.List.{List, [], _∷_, _++_, map, flatMap}
-use Prim.Native.Nat.{ℕ, _-_, _<_, _≤_}
+use Prim.Native.Nat.{ℕ, _-_, _≤_}
 use lib.Dec.{eqb}
 use lib.ListN.{length, getD, take}
 use Rattle.laws.specs.Lists.{from}
@@ -12,13 +12,13 @@ use Rattle.rules.specs.Cells.{digitsOf}
 use Rattle.rules.specs.Rows.{lineOf}
 use Rattle.rules.specs.Sheet.{field}
 use Rattle.rules.specs.Forward.{Walk}
+use Rattle.table.specs.Layout.{opIndex}
 use Rattle.table.specs.Rows.{countIn, kindRow}
 use Rattle.table.specs.Sheet.{sheetIn}
 use Rattle.table.specs.Index.{Ready, rangeIn}
 use Rattle.table.specs.View.{editRow}
-use Rattle.table.specs.Edits.{editsIn, placesIn}
 use Rattle.answer.specs.Text.{cellText}
-use Rattle.table.specs.Written.{fourIn, EditCells, PlaceCell}
+use Rattle.table.specs.Written.{fourIn, InCells}
 
 -- ---- as they are written
 
@@ -31,7 +31,7 @@ unfoldable pub foldAt : List ℕ → List ℕ → ℕ → List ℕ
 foldAt t places n =
     let row = kindRow t 10 n in
     let c = getD places n 0 in
-    cond (eqb c (field 5 row)) [] (foldLine (field 1 row) (n - rangeIn t 54952 instLimit (field 1 row) .from) c)
+    cond (eqb c (field 5 row)) [] (foldLine (field 1 row) (n - rangeIn t opIndex instLimit (field 1 row) .from) c)
 
 -- edit row n
 unfoldable pub editAt : List ℕ → List ℕ → ℕ → List ℕ
@@ -50,9 +50,6 @@ rendered t edits places counts = flatMap (foldAt t places) (from 0 (countIn t 10
 -- the walk's edits, places and counts stand in these cells, and the table is ready
 pub record Stands (t edits places counts : List ℕ) (w : Walk) : Type 0 where
   pub ready : Ready t
-  pub edit-cells : (n : ℕ) → n < length (sheetIn t .edits) → EditCells edits n
-  pub place-cells : (n : ℕ) → n < length (sheetIn t .ops) → PlaceCell (getD places n 0)
+  pub in-cells : InCells t edits places (w .edits) (w .places)
   pub enough : 9 ≤ length counts
-  pub is-edits : w .edits ≡ editsIn edits (length (sheetIn t .edits))
-  pub is-places : w .places ≡ placesIn places (length (sheetIn t .ops))
   pub is-counts : w .counts ≡ take 9 counts

@@ -6,8 +6,9 @@ use Prim.Native.Nat.{ℕ, _+_, _-_, _≤_}
 use lib.Dec.{ltb, eqb}
 use lib.ListN.{length}
 use lib.Seq.{sets}
+use Rattle.rules.specs.Words.{ereloadWord, espillWord, moveWord, noneWord, rematWord}
 use Rattle.rules.specs.Text.{bytes}
-use Rattle.rules.specs.Cells.{digitsOf}
+use Rattle.rules.specs.Cells.{digitsOf, numberLimit, regMark, slotMark}
 
 -- `out` with the bytes of `text` stored one after the other from `at` on; what falls past the end is not stored
 unfoldable pub over : List ℕ → ℕ → List ℕ → List ℕ
@@ -20,17 +21,17 @@ pub record Laid (text old : List ℕ) (at : ℕ) (new : List ℕ) (next : ℕ) :
 -- the words that stand in an edit row; `-` for any other
 unfoldable pub wordText : ℕ → List ℕ
 wordText c =
-    cond (eqb c 100021) (bytes "move")
-    (cond (eqb c 100022) (bytes "remat")
-    (cond (eqb c 100023) (bytes "espill")
-    (cond (eqb c 100024) (bytes "ereload")
-    (cond (eqb c 100025) (bytes "none")
+    cond (eqb c moveWord) (bytes "move")
+    (cond (eqb c rematWord) (bytes "remat")
+    (cond (eqb c espillWord) (bytes "espill")
+    (cond (eqb c ereloadWord) (bytes "ereload")
+    (cond (eqb c noneWord) (bytes "none")
     (bytes "-")))))
 
 -- a cell of an answer's row: a number, a word, a register or a slot. Of these cells it is rules' `fieldOf`.
 unfoldable pub cellText : ℕ → List ℕ
 cellText c =
-    cond (ltb c 100000) (digitsOf c)
-    (cond (ltb c 200000) (wordText c)
-    (cond (ltb c 300000) (114 ∷ digitsOf (c - 200000))
-    (115 ∷ digitsOf (c - 300000))))
+    cond (ltb c numberLimit) (digitsOf c)
+    (cond (ltb c regMark) (wordText c)
+    (cond (ltb c slotMark) (114 ∷ digitsOf (c - regMark))
+    (115 ∷ digitsOf (c - slotMark))))

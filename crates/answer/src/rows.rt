@@ -20,6 +20,9 @@ use bits::tables::read_u32;
 use entity::forms::Refusal;
 use entity::numbers::EditRow;
 use entity::numbers::Inst;
+use entity::numbers::OperandIndex;
+use entity::numbers::OperandRow;
+use table::edits::WIDTH;
 use table::index::op_rows;
 use table::rows::Kind;
 use table::rows::count;
@@ -45,28 +48,28 @@ fn put_field(out: &mut [u8], at: usize, c: u32) -> usize
     put_cell(out, next, c)
 }
 
-fn put_fold(out: &mut [u8], at: usize, inst: u32, operand: u32, place: u32) -> usize
-    ensures { λ r. ⌜ Laid (foldLine inst operand place) (now (out .entry)) at (now (out .exit)) r ⌝ }
+fn put_fold(out: &mut [u8], at: usize, inst: Inst, operand: OperandIndex, place: u32) -> usize
+    ensures { λ r. ⌜ Laid (foldLine (inst .0) (operand .0) place) (now (out .entry)) at (now (out .exit)) r ⌝ }
 {
     let a = put_text(out, at, b"fold");
-    let b = put_next(out, a, inst);
-    let c = put_next(out, b, operand);
+    let b = put_next(out, a, inst.0);
+    let c = put_next(out, b, operand.0);
     let d = put_field(out, c, place);
     put_end(out, d)
 }
 
 // The fold row of an operand row whose place is altered.
-fn put_fold_of(t: &[u32], places: &[u32], n: u32, out: &mut [u8], at: usize) -> usize
-    ensures { λ r. ⌜ Laid (foldAt (now (t .entry)) (now (places .entry)) n) (now (out .entry)) at (now (out .exit)) r ⌝ }
+fn put_fold_of(t: &[u32], places: &[u32], n: OperandRow, out: &mut [u8], at: usize) -> usize
+    ensures { λ r. ⌜ Laid (foldAt (now (t .entry)) (now (places .entry)) (n .0)) (now (out .entry)) at (now (out .exit)) r ⌝ }
 {
-    let row = row_of(t, Kind::OP, n);
-    let place = read_u32(places, n as usize);
+    let row = row_of(t, Kind::OP, n.0);
+    let place = read_u32(places, n.0 as usize);
     if place == read_u32(row, 5) {
         return at;
     }
-    let inst = read_u32(row, 1);
-    let rows = op_rows(t, Inst(inst));
-    put_fold(out, at, inst, less(n, rows.from), place)
+    let inst = Inst(read_u32(row, 1));
+    let rows = op_rows(t, inst);
+    put_fold(out, at, inst, OperandIndex(less(n.0, rows.from)), place)
 }
 
 fn put_folds(t: &[u32], places: &[u32], out: &mut [u8], at: usize) -> usize
@@ -76,17 +79,17 @@ fn put_folds(t: &[u32], places: &[u32], out: &mut [u8], at: usize) -> usize
     let mut n: u32 = 0;
     let mut next = at;
     while n < rows {
-        next = put_fold_of(t, places, n, out, next);
+        next = put_fold_of(t, places, OperandRow(n), out, next);
         n += 1;
     }
     next
 }
 
-fn put_edit(t: &[u32], edits: &[u32], n: u32, out: &mut [u8], at: usize) -> usize
-    ensures { λ r. ⌜ Laid (editAt (now (t .entry)) (now (edits .entry)) n) (now (out .entry)) at (now (out .exit)) r ⌝ }
+fn put_edit(t: &[u32], edits: &[u32], n: EditRow, out: &mut [u8], at: usize) -> usize
+    ensures { λ r. ⌜ Laid (editAt (now (t .entry)) (now (edits .entry)) (n .0)) (now (out .entry)) at (now (out .exit)) r ⌝ }
 {
-    let inst = edit_at(t, EditRow(n));
-    let i = n as usize * 4;
+    let inst = edit_at(t, n);
+    let i = n.0 as usize * WIDTH;
     let kind = read_u32(edits, i);
     let to = read_u32(edits, i + 1);
     let from = read_u32(edits, i + 2);
@@ -107,7 +110,7 @@ fn put_edits(t: &[u32], edits: &[u32], out: &mut [u8], at: usize) -> usize
     let mut n: u32 = 0;
     let mut next = at;
     while n < rows {
-        next = put_edit(t, edits, n, out, next);
+        next = put_edit(t, edits, EditRow(n), out, next);
         n += 1;
     }
     next

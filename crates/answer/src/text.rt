@@ -6,8 +6,11 @@ ghost use Rattle.rules.specs.Text.{bytes};
 ghost use Rattle.rules.specs.Cells.{digitsOf};
 ghost use Rattle.answer.specs.Text.{Laid, wordText, cellText};
 use bits::tables::store_u8;
+use entity::cells::Mark;
+use entity::cells::Number;
+use entity::cells::Word;
 
-pub fn put(out: &mut [u8], at: usize, b: u8) -> usize
+fn put(out: &mut [u8], at: usize, b: u8) -> usize
     ensures { λ r. ⌜ Laid (b ∷ []) (now (out .entry)) at (now (out .exit)) r ⌝ }
 {
     store_u8(out, at, b);
@@ -69,11 +72,11 @@ fn put_word(out: &mut [u8], at: usize, c: u32) -> usize
     ensures { λ r. ⌜ Laid (wordText c) (now (out .entry)) at (now (out .exit)) r ⌝ }
 {
     match c {
-        100021 => put_text(out, at, b"move"),
-        100022 => put_text(out, at, b"remat"),
-        100023 => put_text(out, at, b"espill"),
-        100024 => put_text(out, at, b"ereload"),
-        100025 => put_text(out, at, b"none"),
+        Word::MOVE => put_text(out, at, b"move"),
+        Word::REMAT => put_text(out, at, b"remat"),
+        Word::ESPILL => put_text(out, at, b"espill"),
+        Word::ERELOAD => put_text(out, at, b"ereload"),
+        Word::NONE => put_text(out, at, b"none"),
         _ => put_text(out, at, b"-"),
     }
 }
@@ -82,16 +85,16 @@ fn put_word(out: &mut [u8], at: usize, c: u32) -> usize
 pub fn put_cell(out: &mut [u8], at: usize, c: u32) -> usize
     ensures { λ r. ⌜ Laid (cellText c) (now (out .entry)) at (now (out .exit)) r ⌝ }
 {
-    if c < 100000 {
+    if c < Number::LIMIT {
         return put_number(out, at, c);
     }
-    if c < 200000 {
+    if c < Mark::REG {
         return put_word(out, at, c);
     }
-    if c < 300000 {
+    if c < Mark::SLOT {
         let next = put(out, at, b'r');
-        return put_number(out, next, c - 200000);
+        return put_number(out, next, c - Mark::REG);
     }
     let next = put(out, at, b's');
-    put_number(out, next, c - 300000)
+    put_number(out, next, c - Mark::SLOT)
 }

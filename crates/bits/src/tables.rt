@@ -8,12 +8,6 @@ pub fn read_u8(bytes: &[u8], i: usize) -> u8
     if i < bytes.len() { bytes[i] } else { 0 }
 }
 
-pub fn read_u16(table: &[u16], i: usize) -> u16
-    ensures { λ r. ⌜ r ≡ getD (now (table .entry)) i 0 ⌝ }
-{
-    if i < table.len() { table[i] } else { 0 }
-}
-
 pub fn read_u32(cells: &[u32], i: usize) -> u32
     ensures { λ r. ⌜ r ≡ getD (now (cells .entry)) i 0 ⌝ }
 {
@@ -31,14 +25,6 @@ pub fn store_u8(bytes: &mut [u8], i: usize, v: u8)
 {
     if i < bytes.len() {
         bytes[i] = v;
-    }
-}
-
-pub fn store_u16(table: &mut [u16], i: usize, v: u16)
-    ensures { λ _. ⌜ now (table .exit) ≡ set (now (table .entry)) i v ⌝ }
-{
-    if i < table.len() {
-        table[i] = v;
     }
 }
 

@@ -1,4 +1,4 @@
--- The counts of struck rows: in whatever order rows are struck, they come to the same. Assumes nothing.
+-- For `count_struck` of src/sweep.rt, the counts of struck rows: in whatever order rows are struck, they come to the same. Assumes nothing.
 --     struck-none      where no row is struck nothing is counted
 --     count-strike     one row more
 --     count-bound      each count is at most as many rows higher
@@ -10,12 +10,12 @@ use native.Mathlib.Omega.{arith}
 use lib.ListN.{length, getD, set, length-set}
 use lib.Seq.{getD-set-same, getD-set-other, ext-getD}
 use Rattle.laws.specs.Fold.{run}
-use Rattle.laws.proofs.Cases.{by-bool, by-eq, by-lt}
+use Rattle.laws.proofs.Cases.{by-bool, by-eq, never}
 use Rattle.entity.specs.declared.forms.Edit.{Edit}
 use Rattle.entity.specs.declared.forms.Edit.the-variants.{Move, Remat, Espill, Ereload, Misplaced, Nothing}
 use Rattle.rules.specs.Forward.{count, deadSpill, deadRemat}
 use Rattle.rules.specs.Sweep.{isNothing, struck}
-use Rattle.dead_spill_elimination.proofs.Members.{not-in}
+use Rattle.table.proofs.Counted.{count-more}
 
 none : (k : ℕ) (cs : List ℕ) → length cs ≤ k → getD cs k 0 ≡ 0
 none k [] h = refl
@@ -55,15 +55,6 @@ count-comm a b cs =
     rw e (count-other a b (count b cs) n′ ∙ count-at b cs (omega arith) ∙ sym (count-at b (count a cs) h ∙ ap (λ (x : ℕ). x + 1) (count-other a b cs n′))))
     (λ q. count-other a i (count b cs) p ∙ count-other b i cs q ∙ sym (count-other b i (count a cs) q ∙ count-other a i cs p)))))
 
-count-more : (k i : ℕ) (cs : List ℕ) → getD (count k cs) i 0 ≤ getD cs i 0 + 1
-count-more k i cs =
-    by-eq i k
-    (λ e. by-lt k (length cs) (λ h. rw e (omega (arith, count-at k cs h))) (λ h. rw e (past k cs h)))
-    (λ n. omega (arith, count-other k i cs n))
-  where
-    past : (k : ℕ) (cs : List ℕ) → length cs ≤ k → getD (count k cs) k 0 ≤ getD cs k 0 + 1
-    past k cs h = omega (arith, none k (count k cs) (omega (arith, count-length k cs)))
-
 -- ---- one row
 
 -- what is counted for a row that was e and is none now
@@ -100,11 +91,11 @@ struck-same cs Nothing = struck-for cs Nothing
 
 is-none : (x : Edit) → isNothing x ≡ true → x ≡ Nothing
 unfolding isNothing
-is-none (Move to p v) h = not-in h
-is-none (Remat to v) h = not-in h
-is-none (Espill d r) h = not-in h
-is-none (Ereload r q) h = not-in h
-is-none (Misplaced to p) h = not-in h
+is-none (Move to p v) h = never h
+is-none (Remat to v) h = never h
+is-none (Espill d r) h = never h
+is-none (Ereload r q) h = never h
+is-none (Misplaced to p) h = never h
 is-none Nothing h = refl
 
 for-count : (e : Edit) (k : ℕ) (cs : List ℕ) → for e (count k cs) ≡ count k (for e cs)

@@ -1,4 +1,4 @@
--- Loops over the numbers of a range, from the last to the first. Assumes nothing.
+-- For the loops of src/wanted.rt and src/sweep.rt over the numbers of a range, from the last to the first. Assumes nothing.
 --     Down r n      the loop has come to n
 --     down-first, down-next       it begins at the end, and goes on
 --     back-first, back-next, back-all      `back` over the numbers that it has passed
@@ -9,6 +9,7 @@ use mathlib.Core.List.{List, [], _∷_}
 use Prim.Native.Nat.{ℕ, zero, suc, _+_, _-_, _<_, _≤_}
 use native.Mathlib.Omega.{arith}
 use Rattle.laws.specs.Lists.{from}
+use Rattle.laws.proofs.Cases.{by-lt}
 use Rattle.bits.specs.declared.sets.NumberSet.{NumberSet}
 use Rattle.rules.specs.Function.{In}
 use Rattle.table.specs.declared.index.Range.{Range}
@@ -35,16 +36,10 @@ from-next n m h l =
     rw (a, from, b)
 
 -- a number of the range is one of its numbers
-in-from : (a n x : ℕ) → a ≤ x → x < a + n → In x (from a n)
+pub in-from : (a n x : ℕ) → a ≤ x → x < a + n → In x (from a n)
 unfolding from
 in-from a zero x h l = absurd (omega arith)
-in-from a (suc n) x h l = ⊎-elim inl (λ y. inr (in-from (suc a) n x y (omega arith))) (cut a x h)
-  where
-    cut : (a x : ℕ) → a ≤ x → (x ≡ a) ⊎ (suc a ≤ x)
-    cut zero zero h = inl refl
-    cut zero (suc x) h = inr (omega arith)
-    cut (suc a) zero h = absurd (omega arith)
-    cut (suc a) (suc x) h = ⊎-elim (λ e. inl (ap suc e)) (λ y. inr (omega arith)) (cut a x (omega arith))
+in-from a (suc n) x h l = by-lt a x (λ u. inr (in-from (suc a) n x u (omega arith))) (λ u. inl (omega arith))
 
 pub in-numbers : (r : Range) (n : ℕ) → Down r n → r .from < n → In (n - 1) (numbers r)
 in-numbers r n d h = let m = at-most r n d in in-from (r .from) (r .to - r .from) (n - 1) (omega arith) (omega arith)

@@ -1,15 +1,16 @@
--- The worklist is that of the sheet's function: what is wanted at a block's start, and predecessors and successors. Assumes nothing.
+-- For `Facts` of specs/Worklist.antt, which the loop of src/ends.rt goes by: the worklist is that of the sheet's function: what is wanted at a block's start, and predecessors
+-- and successors. Assumes nothing.
 use mathlib.Core.Path.{_≡_, refl, sym, _∙_, ap}
 use mathlib.Core.Logic.{_⊎_, inl, inr, ⊎-elim, _↔_}
-use mathlib.Core.Bool.{Bool, true, false, cond, _&&_}
+use mathlib.Core.Bool.{true, cond, _&&_}
 use mathlib.Core.List.{List, [], _∷_, _++_, map, flatMap, append-assoc}
-use Prim.Native.Nat.{ℕ, zero, suc, _+_, _≤_, _<_}
+use Prim.Native.Nat.{ℕ, _+_, _≤_, _<_}
 use native.Mathlib.Omega.{arith}
 use lib.Dec.{eqb, ltb}
 use lib.ListN.{length, getD, length-map, List·getD-eq-default}
 use borrow.Author.Tests.{ltb-true}
 use Rattle.laws.specs.Lists.{all, keep, isIn, from}
-use Rattle.laws.proofs.Cases.{by-bool, by-lt}
+use Rattle.laws.proofs.Cases.{by-bool, by-lt, same-test}
 use Rattle.entity.specs.Limits.{blockLimit, instLimit}
 use Rattle.entity.specs.declared.forms.Place.{Place}
 use Rattle.entity.specs.declared.forms.Edit.{Edit}
@@ -19,32 +20,29 @@ use Rattle.rules.specs.Accept.{blockExists, listsAgree}
 use Rattle.rules.specs.Forward.{editsAt}
 use Rattle.rules.specs.Function.{Op, edit, inst, Func, opsOf, nextOf, Item, row, ins, items, look, instOf, funcOf, In}
 use Rattle.rules.specs.Sweep.{wantedBefore, wantedAt}
+use Rattle.rules.proofs.Refusals.{all-named, each-named}
 use Rattle.run.proofs.Sets.{is-in}
 use Rattle.run.proofs.Back.{back-all-mono, at-back}
 use Rattle.run.proofs.Rows.{ops-look}
 use Rattle.run.proofs.Stand.{in-map, here}
+use Rattle.run.proofs.Lists.{either, all-true}
 use Rattle.table.specs.Sheet.{sheetIn}
 use Rattle.table.specs.Edits.{editIn}
 use Rattle.table.specs.Index.{rangeIn}
 use Rattle.table.proofs.Loops.{and-left, and-right}
 use Rattle.table.proofs.Sheets.{members-at, members-long}
-use Rattle.table.proofs.Lookups.{all-named, succs-named, preds-named}
 use Rattle.table.proofs.Stored.{edits-at}
 use Rattle.dead_spill_elimination.specs.Slots.{numbers, back, editsBack, instBack, stepBack, blockBack, Lows}
 use Rattle.dead_spill_elimination.specs.Worklist.{Facts}
 use Rattle.dead_spill_elimination.specs.Held.{theEdits, thePlaces, Held}
 use Rattle.dead_spill_elimination.proofs.Striking.{itemsOf}
 use Rattle.dead_spill_elimination.proofs.Linking.{linked}
+use Rattle.dead_spill_elimination.proofs.Down.{in-from}
 
 -- ---- lists that have the same members
 
 abbrev Alike : List ℕ → List ℕ → Type 0
 Alike X Y = (k : ℕ) → isIn k X ≡ isIn k Y
-
-pub same-test : (a b : Bool) → (a ≡ true → b ≡ true) → (b ≡ true → a ≡ true) → a ≡ b
-same-test true b f g = sym (f refl)
-same-test false true f g = g refl
-same-test false false f g = refl
 
 at-alike : (os : List Op) (X Y : List ℕ) → Alike X Y → Alike (wantedAt os X) (wantedAt os Y)
 at-alike os X Y e k = same-test (isIn k (wantedAt os X)) (isIn k (wantedAt os Y)) (go X Y e) (go Y X (λ n. sym (e n)))
@@ -65,20 +63,6 @@ map-append f (x ∷ xs) ys = ap (λ (l : List _). f x ∷ l) (map-append f xs ys
 
 -- ---- tests of each
 
-all-in : (f : ℕ → Bool) (l : List ℕ) → all f l ≡ true → (x : ℕ) → In x l → f x ≡ true
-unfolding all
-all-in f [] e x h = absurd h
-all-in f (y ∷ l) e x h = ⊎-elim (λ q. rw q (and-left (f y) (all f l) e)) (all-in f l (and-right (f y) (all f l) e) x) h
-
-in-from : (n k x : ℕ) → k ≤ x → x < k + n → In x (from k n)
-unfolding from
-in-from zero k x h l = absurd (omega arith)
-in-from (suc n) k x h l = by-lt k x (λ u. inr (in-from n (suc k) x u (omega arith))) (λ u. inl (omega arith))
-
-in-append : (x : ℕ) (l m : List ℕ) → In x (l ++ m) → In x l ⊎ In x m
-in-append x [] m h = inr h
-in-append x (y ∷ l) m h = ⊎-elim (λ e. inl (inl e)) (λ z. ⊎-elim (λ a. inl (inr a)) inr (in-append x l m z)) h
-
 list-named : (sh : Sheet) (rows : List ListRow) (b x : ℕ) → all (λ r. blockExists sh (r .at) && all (blockExists sh) (r .list)) rows ≡ true → In x (listAt sh rows b) → x < blockCount sh
 unfolding all listAt keep flatMap
 list-named sh [] b x e h = absurd h
@@ -87,8 +71,8 @@ list-named sh (r ∷ rows) b x e h =
     let rest = list-named sh rows b x (and-right (blockExists sh (r .at) && all (blockExists sh) (r .list)) _ e) in
     by-bool (eqb (r .at) b)
     (λ p.
-    ⊎-elim (λ m. ltb-true x (blockCount sh) (all-in (blockExists sh) (r .list) (and-right (blockExists sh (r .at)) _ here) x m)) rest
-    (in-append x (r .list) (flatMap (λ r. r .list) (keep (λ r. eqb (r .at) b) rows)) (rw p at h)))
+    ⊎-elim (λ m. ltb-true x (blockCount sh) (all-true (blockExists sh) (r .list) (and-right (blockExists sh (r .at)) _ here) x m)) rest
+    (either x (r .list) (flatMap (λ r. r .list) (keep (λ r. eqb (r .at) b) rows)) (rw p at h)))
     (λ p. rest (rw p at h))
 
 module _ {t edits places counts : List ℕ} (h : Held t edits places counts) where
@@ -153,15 +137,15 @@ module _ {t edits places counts : List ℕ} (h : Held t edits places counts) whe
   unfolding listsAgree
   agree-next p b l m =
       let a = and-left (all (λ b. all (λ t. isIn b (predsOf sh t)) (succsOf sh b)) (from 0 (blockCount sh))) _ (h .agree) in
-      is-in p (predsOf sh b) .0 (all-in (λ t. isIn p (predsOf sh t)) (succsOf sh p)
-      (all-in (λ b. all (λ t. isIn b (predsOf sh t)) (succsOf sh b)) (from 0 (blockCount sh)) a p (in-from (blockCount sh) 0 p (omega arith) (omega arith))) b m)
+      is-in p (predsOf sh b) .0 (all-true (λ t. isIn p (predsOf sh t)) (succsOf sh p)
+      (all-true (λ b. all (λ t. isIn b (predsOf sh t)) (succsOf sh b)) (from 0 (blockCount sh)) a p (in-from 0 (blockCount sh) p (omega arith) (omega arith))) b m)
 
   agree-back : (b p : ℕ) → b < blockCount sh → In p (predsOf sh b) → In b (succsOf sh p)
   unfolding listsAgree
   agree-back b p l m =
       let a = and-right (all (λ b. all (λ t. isIn b (predsOf sh t)) (succsOf sh b)) (from 0 (blockCount sh))) _ (h .agree) in
-      is-in b (succsOf sh p) .0 (all-in (λ p. isIn b (succsOf sh p)) (predsOf sh b)
-      (all-in (λ b. all (λ p. isIn b (succsOf sh p)) (predsOf sh b)) (from 0 (blockCount sh)) a b (in-from (blockCount sh) 0 b (omega arith) (omega arith))) p m)
+      is-in b (succsOf sh p) .0 (all-true (λ p. isIn b (succsOf sh p)) (predsOf sh b)
+      (all-true (λ b. all (λ p. isIn b (succsOf sh p)) (predsOf sh b)) (from 0 (blockCount sh)) a b (in-from 0 (blockCount sh) b (omega arith) (omega arith))) p m)
 
   pub lows : Lows t edits places
   lows =
@@ -177,12 +161,12 @@ module _ {t edits places counts : List ℕ} (h : Held t edits places counts) whe
         lows = lows;
         back = λ b l. block-is b;
         preds-in = λ b p l m.
-            let n : p < blockCount sh = list-named sh (sh .preds) b p (preds-named sh (all-named sh (h .ready .names))) m in
+            let n : p < blockCount sh = list-named sh (sh .preds) b p (each-named sh (all-named sh (h .ready .names)) .preds) m in
             (n, rw (next-is p n) (agree-back b p l m));
         succs-in = λ p b m.
             by-lt p (blockCount sh)
             (λ l.
             let m′ : In b (succsOf sh p) = rw (next-is p l) at m in
-            (list-named sh (sh .succs) p b (succs-named sh (all-named sh (h .ready .names))) m′, agree-next p b l m′))
+            (list-named sh (sh .succs) p b (each-named sh (all-named sh (h .ready .names)) .succs) m′, agree-next p b l m′))
             (λ l. let z : In b [] = rw (next-none p l) at m in absurd z);
       }

@@ -1,4 +1,4 @@
--- What `spread` does to the words and the flags. Assumes nothing.
+-- For `hand_to` of src/ends.rt: what `spread` of specs/Worklist.antt does to the words and the flags. Assumes nothing.
 --     Gave ps v st st′     v was given to each of ps: nothing is lost, each of ps has v, nothing else came, a block that grew waits, the weight did not rise
 --     gave                 `spread ps v st` gave v to each of ps
 use mathlib.Core.Path.{_≡_, refl, sym, _∙_, ap, subst}

@@ -1,4 +1,4 @@
--- The numbers of the rows of one instruction, by the index. Assumes nothing.
+-- For Linking.antt: the numbers of the rows of one instruction, by the index. Assumes nothing.
 --     at-numbers       where first fields never fall, the rows at x have the numbers from `before x` to `before (x + 1)`
 --     flat-pairs, flat-rows     what is read off those rows, by their numbers
 use mathlib.Core.Path.{_≡_, refl, sym, _∙_, ap}

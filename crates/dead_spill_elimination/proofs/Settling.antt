@@ -1,4 +1,4 @@
--- The worklist's loop: what it keeps, and that at the end it has what is wanted at the ends of the blocks. Assumes nothing.
+-- For `turn` and `settle` of src/ends.rt, the worklist's loop: what it keeps, and that at the end it has what is wanted at the ends of the blocks. Assumes nothing.
 --     Good, Inv     the shape of the state, and what it says of a function
 --     good-turn, less-turn, inv-turn      a turn keeps them, and brings the weight down
 --     inv-first, inv-last     with nothing wanted and every block waiting; with no block waiting
@@ -12,6 +12,7 @@ use lib.ListN.{length, getD, set, length-set}
 use Rattle.laws.specs.Digits.{bit}
 use Rattle.laws.specs.Lists.{isIn}
 use Rattle.laws.proofs.Bit.{bit-zero}
+use Rattle.laws.proofs.Cases.{never}
 use Rattle.rules.specs.Sheet.{predsOf}
 use Rattle.rules.specs.Function.{Func, opsOf, nextOf, In}
 use Rattle.rules.specs.Sweep.{wantedAt}
@@ -25,7 +26,6 @@ use Rattle.dead_spill_elimination.specs.Slots.{Same, blockBack, Lows}
 use Rattle.dead_spill_elimination.specs.Worklist.{State, spread, Word, Turned, Facts}
 use Rattle.dead_spill_elimination.proofs.Sums.{weight, weight-clear}
 use Rattle.dead_spill_elimination.proofs.Given.{On, Words, set-cases, Gave, gave}
-use Rattle.dead_spill_elimination.proofs.Members.{not-in}
 use Rattle.dead_spill_elimination.proofs.Tell.{listOf, list-of-word}
 
 pub record Good (n : ℕ) (X W : List ℕ) : Type 0 where
@@ -90,7 +90,7 @@ module _ (t edits places : List ℕ) (n : ℕ) where
   inv-first f X W z a =
       record {
         settled = λ b l e. absurd (a b l e);
-        within = λ b s x. not-in (sym (ap (λ (w : ℕ). bit w s) (z b) ∙ bit-zero s) ∙ x);
+        within = λ b s x. never (sym (ap (λ (w : ℕ). bit w s) (z b) ∙ bit-zero s) ∙ x);
       }
 
   pub inv-last : (f : Func) → Facts t edits places f n → (X W : List ℕ) → Inv f X W → ((b : ℕ) → b < n → getD W b 0 ≡ 0) → (b s : ℕ) → On (getD X b 0) s ↔ WantedAtEnd f b s

@@ -1,4 +1,4 @@
--- Sums over a list of numbers, for the worklist's measure. Assumes nothing.
+-- For the measure of the loop of src/ends.rt: sums over a list of numbers. Assumes nothing.
 --     sumOf f xs       the sum of f at each number of xs
 --     sum-set          what a store does to it
 --     weight T X W     twice what is missing to T, over the sets, and the flags that are set

@@ -1,4 +1,4 @@
--- A word of slots and a set of slots. Assumes nothing.
+-- For `slots_of` and `word_of` of src/ends.rt: a word of slots and a set of slots. Assumes nothing.
 use mathlib.Core.Path.{_≡_, refl, sym, _∙_, ap}
 use mathlib.Core.Bool.{Bool, true, false, _&&_}
 use mathlib.Core.List.{List, [], _∷_}
@@ -14,12 +14,12 @@ use Rattle.laws.specs.Lists.{any, keep, isIn, from}
 use Rattle.laws.proofs.Bit.{bit-zero}
 use Rattle.laws.proofs.Words.{at-word}
 use Rattle.laws.proofs.Cases.{by-lt, by-eq}
+use Rattle.laws.proofs.Lists.{is-keep}
 use Rattle.bits.specs.Sets.{has, made}
 use Rattle.bits.specs.declared.sets.NumberSet.{NumberSet}
 use Rattle.entity.specs.Limits.{slotLimit}
 use Rattle.dead_spill_elimination.specs.Slots.{Same}
 use Rattle.dead_spill_elimination.specs.Worklist.{Word}
-use Rattle.dead_spill_elimination.proofs.Members.{is-keep}
 
 -- a digit past a word's width is not set
 pub bit-high : (x k : ℕ) → x < 2 ^ 64 → 64 ≤ k → bit x k ≡ false

@@ -1,22 +1,24 @@
--- The sweep is the definitions' sweep: the words at the ends are `ends`, and the rows struck by them are `strikeBlocks`. Assumes nothing.
+-- For `sweep_edits` of src/sweep.rt: the sweep is the definitions' sweep: the words at the ends are `ends`, and the rows struck by them are `strikeBlocks`. Assumes nothing.
 use mathlib.Core.Path.{_≡_, refl, sym, _∙_, ap, subst}
 use mathlib.Core.Logic.{_↔_}
-use mathlib.Core.Bool.{Bool, true, false}
-use mathlib.Core.List.{List, [], _∷_, map, zip}
-use Prim.Native.Nat.{ℕ, zero, suc, _+_, _*_, _≤_, _<_}
+use mathlib.Core.Bool.{true, false, and-false}
+use mathlib.Core.List.{List, [], _∷_, map}
+use Prim.Native.Nat.{ℕ, zero, suc, _≤_, _<_}
 use native.Mathlib.Omega.{arith}
+use lib.Dec.{leb}
 use lib.ListN.{length, getD, drop, take, replicate, length-replicate, getD-replicate}
 use lib.Seq.{drop-nil, length-take-le, getD-take}
+use borrow.Author.Tests.{leb-true}
 use Rattle.laws.specs.Digits.{bit}
-use Rattle.laws.specs.Fold.{run}
 use Rattle.laws.specs.Lists.{isIn}
-use Rattle.entity.specs.Limits.{slotLimit}
+use Rattle.laws.proofs.Cases.{same-test, by-bool}
+use Rattle.entity.specs.Limits.{blockLimit, editLimit}
 use Rattle.entity.specs.declared.forms.Place.{Place}
 use Rattle.entity.specs.declared.forms.Edit.{Edit}
-use Rattle.entity.specs.declared.forms.Edit.the-variants.{Nothing}
 use Rattle.rules.specs.Sheet.{Sheet, blockCount}
-use Rattle.rules.specs.Function.{Op, Func, Item, row, ins, items, look, instOf, funcOf}
+use Rattle.rules.specs.Function.{Op, Func, Item, row, ins, items, look, funcOf}
 use Rattle.rules.specs.Sweep.{ends, struck, strikeBlocks}
+use Rattle.rules.proofs.Refusals.{in-limits}
 use Rattle.run.specs.Swept.{WantedAtEnd, ReadsWithin}
 use Rattle.run.proofs.Rows.{ops-look}
 use Rattle.run.proofs.Settle.{agreement}
@@ -24,16 +26,16 @@ use Rattle.run.proofs.Struck.{func-many}
 use Rattle.table.specs.Rows.{countIn}
 use Rattle.table.specs.Sheet.{sheetIn}
 use Rattle.table.specs.Edits.{editsIn}
-use Rattle.table.specs.Index.{Ready}
-use Rattle.table.proofs.Sheets.{blocks-are, long-of}
-use Rattle.table.proofs.Lookups.{few-blocks}
+use Rattle.table.proofs.Sheets.{blocks-are, edits-are, long-of}
 use Rattle.table.proofs.Stored.{edits-length}
+use Rattle.marks.specs.Marks.{applied}
+use Rattle.marks.proofs.Marking.{applied-exact}
 use Rattle.dead_spill_elimination.specs.Slots.{LowReads}
 use Rattle.dead_spill_elimination.specs.Worklist.{Word, Facts}
 use Rattle.dead_spill_elimination.specs.Strikes.{All, Outcome}
 use Rattle.dead_spill_elimination.specs.Held.{theEdits, thePlaces, Held, sweptEdits, Swept}
 use Rattle.dead_spill_elimination.proofs.Linking.{linked, low-inst}
-use Rattle.dead_spill_elimination.proofs.Facing.{same-test, facts}
+use Rattle.dead_spill_elimination.proofs.Facing.{facts}
 
 module _ {t edits places counts : List ℕ} (h : Held t edits places counts) where
   abbrev sh : Sheet
@@ -67,42 +69,52 @@ module _ {t edits places counts : List ℕ} (h : Held t edits places counts) whe
       let a = agreement f (func-many sh ps es) within b k in
       same-test (bit (getD X b 0) k) (isIn k (getD (ends f) b [])) (λ e. a .1 (w b k .0 e)) (λ e. w b k .1 (a .0 e))
 
-  all-of : (X : List ℕ) → blockCount sh ≡ length X → ((b s : ℕ) → (bit (getD X b 0) s ≡ true) ↔ WantedAtEnd f b s) → All t places edits counts X
-  all-of X n w =
-      let N : length es ≡ length (sh .edits) = edits-length edits (length (sh .edits)) in
-      record {
-        sheet = sh;
-        places-are = ps;
-        edits = es;
-        after = ends f;
-        linked = linked h;
-        rows = ap (editsIn edits) N;
-        room = rw N (h .room);
-        blocks = n;
-        words = λ b l. are-ends X w b;
-      }
+  module _ (marks : List ℕ) (long : length marks ≡ length (sh .edits)) (unmarked : (j : ℕ) → getD marks j 0 ≡ 0) where
+    all-of : (X : List ℕ) → blockCount sh ≡ length X → ((b s : ℕ) → (bit (getD X b 0) s ≡ true) ↔ WantedAtEnd f b s) → All t places edits marks counts X
+    all-of X n w =
+        let N : length es ≡ length (sh .edits) = edits-length edits (length (sh .edits)) in
+        record {
+          sheet = sh;
+          places-are = ps;
+          edits = es;
+          after = ends f;
+          linked = linked h;
+          rows = ap (editsIn edits) N;
+          room = rw N (h .room);
+          long = omega (arith, N, long);
+          unmarked = unmarked;
+          blocks = n;
+          words = λ b l. are-ends X w b;
+        }
 
-  done : (X : List ℕ) (n : blockCount sh ≡ length X) (w : (b s : ℕ) → (bit (getD X b 0) s ≡ true) ↔ WantedAtEnd f b s) (cells′ counts′ : List ℕ)
-      → Outcome (all-of X n w) cells′ counts′ → Swept t edits places counts cells′ counts′
-  unfolding all-of
-  done X n w cells′ counts′ r =
-      let N : length es ≡ length (sh .edits) = edits-length edits (length (sh .edits)) in
-      record { edits-are = subst (λ (m : ℕ). editsIn cells′ m ≡ sweptEdits t edits places) N (r .struck-rows); counts-are = r .counted; cells-kept = λ j l x. r .exact j (rw N l) x }
+    done : (X : List ℕ) (n : blockCount sh ≡ length X) (w : (b s : ℕ) → (bit (getD X b 0) s ≡ true) ↔ WantedAtEnd f b s) (marks′ counts′ : List ℕ)
+        → Outcome (all-of X n w) marks′ counts′ → Swept t edits places counts (applied edits marks′) counts′
+    unfolding all-of
+    done X n w marks′ counts′ r =
+        let N : length es ≡ length (sh .edits) = edits-length edits (length (sh .edits)) in
+        record {
+          edits-are = subst (λ (m : ℕ). editsIn (applied edits marks′) m ≡ sweptEdits t edits places) N (r .struck-rows);
+          counts-are = r .counted;
+          cells-kept = λ j l x. applied-exact edits marks′ j (omega (arith, h .room)) x;
+        }
 
-  pub swept : (n : ℕ) (X : List ℕ) {cells′ counts′ : List ℕ} → n ≡ blockCount sh → length X ≡ n
-      → ((f : Func) → Facts t edits places f n → (b s : ℕ) → (bit (getD X b 0) s ≡ true) ↔ WantedAtEnd f b s)
-      → ((g : All t places edits counts X) → Outcome g cells′ counts′) → Swept t edits places counts cells′ counts′
-  swept n X {cells′} {counts′} e l w k =
-      let m : blockCount sh ≡ length X = sym (l ∙ e) in
-      let u : (b s : ℕ) → (bit (getD X b 0) s ≡ true) ↔ WantedAtEnd f b s = w f (rw e (facts h)) in
-      done X m u cells′ counts′ (k (all-of X m u))
+    pub swept : (n : ℕ) (X : List ℕ) {marks′ cells′ counts′ : List ℕ} → n ≡ blockCount sh → length X ≡ n
+        → ((f : Func) → Facts t edits places f n → (b s : ℕ) → (bit (getD X b 0) s ≡ true) ↔ WantedAtEnd f b s)
+        → ((g : All t places edits marks counts X) → Outcome g marks′ counts′) → cells′ ≡ applied edits marks′ → Swept t edits places counts cells′ counts′
+    swept n X {marks′} {cells′} {counts′} e l w k q =
+        let m : blockCount sh ≡ length X = sym (l ∙ e) in
+        let u : (b s : ℕ) → (bit (getD X b 0) s ≡ true) ↔ WantedAtEnd f b s = w f (rw e (facts h)) in
+        rw q (done X m u marks′ counts′ (k (all-of X m u)))
 
--- as many blocks as the table has
-pub blocks-are-few : {t edits places counts : List ℕ} → Held t edits places counts → countIn t 6 ≤ 64
-blocks-are-few {t} h = omega (arith, few-blocks (sheetIn t) (h .ready .limits), long-of (blocks-are t))
+-- as many blocks and edits as the table has
+pub blocks-are-few : {t edits places counts : List ℕ} → Held t edits places counts → countIn t 6 ≤ blockLimit
+blocks-are-few {t} h = omega (arith, in-limits (sheetIn t) (h .ready .limits) .few-blocks, long-of (blocks-are t))
 
-pub blocks-counted : (t : List ℕ) → countIn t 6 ≡ blockCount (sheetIn t)
-blocks-counted t = sym (long-of (blocks-are t))
+pub edits-are-few : {t edits places counts : List ℕ} → Held t edits places counts → countIn t 12 ≤ editLimit
+edits-are-few {t} h = omega (arith, in-limits (sheetIn t) (h .ready .limits) .few-edits, long-of (edits-are t))
+
+pub edits-counted : (t : List ℕ) → countIn t 12 ≡ length (sheetIn t .edits)
+edits-counted t = sym (long-of (edits-are t))
 
 -- ---- a part of an array that holds one value
 

@@ -11,6 +11,7 @@ use Rattle.entity.specs.declared.forms.Edit.{Edit}
 use Rattle.rules.specs.Accept.{listsAgree, inOrder}
 use Rattle.rules.specs.Function.{edit, slotOf, funcOf}
 use Rattle.rules.specs.Sweep.{ends, struck, strikeBlocks}
+use Rattle.table.specs.Layout.{editWidth}
 use Rattle.table.specs.Sheet.{sheetIn}
 use Rattle.table.specs.Index.{Ready}
 use Rattle.table.specs.Edits.{editIn, editsIn, placeIn, placesIn}
@@ -32,7 +33,7 @@ pub record Held (t edits places counts : List ℕ) : Type 0 where
   pub order : inOrder (sheetIn t .edits) ≡ true
   pub low-edits : (j : ℕ) → j < length (sheetIn t .edits) → LowReads (edit (editIn edits j))
   pub low-places : (n : ℕ) → n < length (sheetIn t .ops) → Low (slotOf (placeIn places n))
-  pub room : length (sheetIn t .edits) * 4 ≤ length edits
+  pub room : length (sheetIn t .edits) * editWidth ≤ length edits
   pub few : (k : ℕ) → getD counts k 0 + editLimit < 4294967295
 
 -- the edits and the counts afterwards are those of `sweep`; cells that were an edit row's still are

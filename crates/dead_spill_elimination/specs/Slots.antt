@@ -1,25 +1,24 @@
 -- Sets of slots as the code and as the definitions have them, and the operands and edits of a range of rows.
 use mathlib.Core.Path.{_≡_}
-use mathlib.Core.Bool.{Bool, false, cond, not, _||_}
-use mathlib.Core.List.{List, [], _∷_, _++_}
+use mathlib.Core.Bool.{Bool, false, cond, not}
+use mathlib.Core.List.{List, [], _∷_, _++_, flatMap}
 use Prim.Native.Nat.{ℕ, _-_, _≤_, _<_}
-use Rattle.laws.specs.Lists.{keep, isIn, from}
+use Rattle.laws.specs.Lists.{isIn, from}
 use Rattle.bits.specs.Sets.{has}
 use Rattle.bits.specs.declared.sets.NumberSet.{NumberSet}
 use Rattle.entity.specs.Limits.{slotLimit, blockLimit, instLimit}
-use Rattle.entity.specs.declared.forms.Place.{Place}
-use Rattle.entity.specs.declared.forms.Place.the-variants.{Reg, Slot}
 use Rattle.entity.specs.declared.forms.Edit.{Edit}
-use Rattle.entity.specs.declared.forms.Edit.the-variants.{Move, Remat, Espill, Ereload, Misplaced, Nothing}
-use Rattle.rules.specs.Sheet.{is}
-use Rattle.rules.specs.Function.{Op, edit, slotOf, In}
-use Rattle.rules.specs.Model.{Reads}
-use Rattle.rules.specs.Sweep.{wantedBefore}
+use Rattle.rules.specs.Sheet.{isUse}
+use Rattle.rules.specs.Forward.{allDefs}
+use Rattle.rules.specs.Function.{Op, edit, slotOf, Target, into, over, target, reads, In}
+use Rattle.rules.specs.Sweep.{withoutAll, wantedBefore}
+use Rattle.table.specs.Layout.{editIndex, instIndex, opIndex}
 use Rattle.table.specs.Sheet.{sheetIn}
 use Rattle.table.specs.View.{opRow}
 use Rattle.table.specs.Edits.{editIn, placeIn}
 use Rattle.table.specs.Index.{rangeIn}
 use Rattle.table.specs.declared.index.Range.{Range}
+use Rattle.entity.specs.declared.forms.Place.{Place}
 
 -- the set S has the members of the list A, all of them below the limit
 pub record Same (S : NumberSet) (A : List ℕ) : Type 0 where
@@ -30,24 +29,15 @@ abbrev pub Low : List ℕ → Type 0
 Low qs = (s : ℕ) → In s qs → s < slotLimit
 
 abbrev pub LowReads : Op → Type 0
-LowReads o = (s : ℕ) → Reads o s → s < slotLimit
+LowReads o = Low (reads o)
 
--- those of A that are not in ds
-unfoldable pub gone : List ℕ → List ℕ → List ℕ
-gone ds A = keep (λ s. not (isIn s ds)) A
-
--- the place is a slot that is not in S; the edit is a move or remat into such a slot
-abbrev pub lacks : NumberSet → Place → Bool
-lacks S (Reg r) = false
-lacks S (Slot s) = not (has S (s .0))
+-- a target that is a slot which is not in S; an edit into such a slot
+abbrev pub lacks : NumberSet → Target → Bool
+lacks S (into d) = not (has S d)
+lacks S (over ds) = false
 
 abbrev pub deadIn : NumberSet → Edit → Bool
-deadIn S (Move to p v) = lacks S to
-deadIn S (Remat to v) = lacks S to
-deadIn S (Espill s r) = false
-deadIn S (Ereload r s) = false
-deadIn S (Misplaced to p) = false
-deadIn S Nothing = false
+deadIn S e = lacks S (target (edit e))
 
 -- the numbers of a range; and f at each of some numbers, from the last to the first
 abbrev pub numbers : Range → List ℕ
@@ -59,26 +49,26 @@ back f (x ∷ xs) a = f x (back f xs a)
 
 -- the slots that operand row n defines, and those that it reads
 unfoldable pub defsAt : List ℕ → ℕ → List ℕ
-defsAt t n = let o = opRow (sheetIn t) n in cond (is "def" (o .kind) || is "early" (o .kind)) (slotOf (o .place)) []
+defsAt t n = flatMap (λ (d : ℕ × Place). slotOf (d .1)) (allDefs (sheetIn t) (opRow (sheetIn t) n))
 
 unfoldable pub usesAt : List ℕ → List ℕ → ℕ → List ℕ
-usesAt t places n = cond (is "use" (opRow (sheetIn t) n .kind)) (slotOf (placeIn places n)) []
+usesAt t places n = cond (isUse (opRow (sheetIn t) n .kind)) (slotOf (placeIn places n)) []
 
 -- the slots wanted before edits js, before instruction i, before it with its edits, and at the start of block b, where those of A are wanted after
 unfoldable pub editsBack : List ℕ → List ℕ → List ℕ → List ℕ
 editsBack edits js A = back (λ j B. wantedBefore (edit (editIn edits j)) B) js A
 
 unfoldable pub instBack : List ℕ → List ℕ → ℕ → List ℕ → List ℕ
-instBack t places i A = let js = numbers (rangeIn t 54952 instLimit i) in back (λ n B. usesAt t places n ++ B) js (back (λ n B. gone (defsAt t n) B) js A)
+instBack t places i A = let js = numbers (rangeIn t opIndex instLimit i) in back (λ n B. usesAt t places n ++ B) js (back (λ n B. withoutAll (defsAt t n) B) js A)
 
 module _ (t edits places : List ℕ) where
   unfoldable pub stepBack : ℕ → List ℕ → List ℕ
-  stepBack i A = editsBack edits (numbers (rangeIn t 56008 instLimit i)) (instBack t places i A)
+  stepBack i A = editsBack edits (numbers (rangeIn t editIndex instLimit i)) (instBack t places i A)
 
   unfoldable pub blockBack : ℕ → List ℕ → List ℕ
-  blockBack b A = back stepBack (numbers (rangeIn t 54632 blockLimit b)) A
+  blockBack b A = back stepBack (numbers (rangeIn t instIndex blockLimit b)) A
 
   -- the slots that are read are below the limit
   pub record Lows : Type 0 where
     pub low-uses : (n : ℕ) → Low (usesAt t places n)
-    pub low-edits : (i j : ℕ) → In j (numbers (rangeIn t 56008 instLimit i)) → LowReads (edit (editIn edits j))
+    pub low-edits : (i j : ℕ) → In j (numbers (rangeIn t editIndex instLimit i)) → LowReads (edit (editIn edits j))

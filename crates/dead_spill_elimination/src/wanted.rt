@@ -1,22 +1,22 @@
 // The slots wanted before an edit, an instruction and a block, from those wanted after it.
 ghost use mathlib.Core.Path.{_≡_};
-ghost use mathlib.Core.Bool.{true, false, cond, not, _||_};
-ghost use mathlib.Core.List.{List, [], _++_};
+ghost use mathlib.Core.Bool.{_||_};
+ghost use mathlib.Core.List.{List, _++_};
 ghost use Prim.Native.Nat.{ℕ};
 ghost use lib.Dec.{eqb};
-ghost use Rattle.bits.specs.Sets.{has};
-ghost use Rattle.entity.specs.Limits.{slotLimit, instLimit, blockLimit};
-ghost use Rattle.rules.specs.Function.{edit, slotOf, In};
-ghost use Rattle.rules.specs.Sweep.{wantedBefore};
+ghost use Rattle.rules.specs.Words.{defWord, earlyWord};
+ghost use Rattle.rules.specs.Function.{edit, slotOf, into, toPlace, In};
+ghost use Rattle.rules.specs.Sweep.{withoutAll, wantedBy, wantedBefore};
 ghost use Rattle.table.specs.Edits.{editIn};
-ghost use Rattle.table.specs.Index.{rangeIn};
-ghost use Rattle.dead_spill_elimination.specs.Slots.{Same, Low, LowReads, gone, lacks, deadIn, numbers, back, defsAt, usesAt, editsBack, instBack, blockBack, Lows};
+ghost use Rattle.dead_spill_elimination.specs.Slots.{Same, Low, LowReads, lacks, deadIn, numbers, back, defsAt, usesAt, editsBack, instBack, blockBack, Lows};
 use bits::tables::read_u32;
+use entity::cells::Word;
 use entity::forms::Edit;
 use entity::forms::Place;
 use entity::numbers::Block;
 use entity::numbers::EditRow;
 use entity::numbers::Inst;
+use entity::numbers::OperandRow;
 use entity::numbers::SpillSlot;
 use entity::sets::SlotSet;
 use table::edits::read_edit;
@@ -39,7 +39,7 @@ fn with_place(live: SlotSet, p: Place) -> SlotSet
 }
 
 fn without_place(live: SlotSet, p: Place) -> SlotSet
-    ensures { λ r. ⌜ ((A : List ℕ) → Same (live .0) A → Same (r .0) (gone (slotOf p) A)) ⌝ }
+    ensures { λ r. ⌜ ((A : List ℕ) → Same (live .0) A → Same (r .0) (withoutAll (slotOf p) A)) ⌝ }
 {
     match p {
         Place::Slot(s) => live.remove(s),
@@ -49,7 +49,7 @@ fn without_place(live: SlotSet, p: Place) -> SlotSet
 
 // The slots wanted before a move into slot `to`.
 fn moved(live: SlotSet, to: SpillSlot, from: Place) -> SlotSet
-    ensures { λ r. ⌜ ((A : List ℕ) → Low (slotOf from) → Same (live .0) A → Same (r .0) (cond (has (live .0) (to .0)) (slotOf from ++ gone (slotOf (Place.Slot to)) A) A)) ⌝ }
+    ensures { λ r. ⌜ ((A : List ℕ) → Low (slotOf from) → Same (live .0) A → Same (r .0) (wantedBy (into (to .0)) (slotOf from) A)) ⌝ }
 {
     if live.contains(to) {
         return with_place(live.remove(to), from);
@@ -59,7 +59,7 @@ fn moved(live: SlotSet, to: SpillSlot, from: Place) -> SlotSet
 
 // The place is a slot that is not wanted.
 fn unwanted(live: SlotSet, p: Place) -> bool
-    ensures { λ r. ⌜ r ≡ lacks (live .0) p ⌝ }
+    ensures { λ r. ⌜ r ≡ lacks (live .0) (toPlace p) ⌝ }
 {
     match p {
         Place::Slot(s) => !live.contains(s),
@@ -102,27 +102,20 @@ pub fn before_edit(e: Edit, live: SlotSet) -> SlotSet
     }
 }
 
-// The words of the kinds of operands that define a value, and of those that read one.
-const DEF: u32 = 100014;
-
-const USE: u32 = 100015;
-
-const EARLY: u32 = 100016;
-
 fn defines(k: u32) -> bool
-    ensures { λ r. ⌜ r ≡ (eqb k 100014 || eqb k 100016) ⌝ }
+    ensures { λ r. ⌜ r ≡ (eqb k defWord || eqb k earlyWord) ⌝ }
 {
-    if k == DEF {
+    if k == Word::DEF {
         return true;
     }
-    k == EARLY
+    k == Word::EARLY
 }
 
 // The slots without that which operand row n defines.
-fn without_def(t: &[u32], n: u32, live: SlotSet) -> SlotSet
-    ensures { λ r. ⌜ ((A : List ℕ) → Same (live .0) A → Same (r .0) (gone (defsAt (now (t .entry)) n) A)) ⌝ }
+fn without_def(t: &[u32], n: OperandRow, live: SlotSet) -> SlotSet
+    ensures { λ r. ⌜ ((A : List ℕ) → Same (live .0) A → Same (r .0) (withoutAll (defsAt (now (t .entry)) (n .0)) A)) ⌝ }
 {
-    let row = row_of(t, Kind::OP, n);
+    let row = row_of(t, Kind::OP, n.0);
     if defines(read_u32(row, 2)) {
         return without_place(live, place_of(read_u32(row, 5)));
     }
@@ -130,22 +123,22 @@ fn without_def(t: &[u32], n: u32, live: SlotSet) -> SlotSet
 }
 
 // The slots with that which operand row n reads.
-fn with_use(t: &[u32], places: &[u32], n: u32, live: SlotSet) -> SlotSet
-    ensures { λ r. ⌜ ((A : List ℕ) → Low (usesAt (now (t .entry)) (now (places .entry)) n) → Same (live .0) A → Same (r .0) (usesAt (now (t .entry)) (now (places .entry)) n ++ A)) ⌝ }
+fn with_use(t: &[u32], places: &[u32], n: OperandRow, live: SlotSet) -> SlotSet
+    ensures { λ r. ⌜ ((A : List ℕ) → Low (usesAt (now (t .entry)) (now (places .entry)) (n .0)) → Same (live .0) A → Same (r .0) (usesAt (now (t .entry)) (now (places .entry)) (n .0) ++ A)) ⌝ }
 {
-    if read_u32(row_of(t, Kind::OP, n), 2) == USE {
-        return with_place(live, place_of(read_u32(places, n as usize)));
+    if read_u32(row_of(t, Kind::OP, n.0), 2) == Word::USE {
+        return with_place(live, place_of(read_u32(places, n.0 as usize)));
     }
     live
 }
 
 fn without_defs(t: &[u32], rows: Range, mut live: SlotSet) -> SlotSet
-    ensures { λ r. ⌜ ((A : List ℕ) → Same (live .0) A → Same (r .0) (back (λ n B. gone (defsAt (now (t .entry)) n) B) (numbers rows) A)) ⌝ }
+    ensures { λ r. ⌜ ((A : List ℕ) → Same (live .0) A → Same (r .0) (back (λ n B. withoutAll (defsAt (now (t .entry)) n) B) (numbers rows) A)) ⌝ }
 {
     let mut n = rows.to;
     while rows.from < n {
         n -= 1;
-        live = without_def(t, n, live);
+        live = without_def(t, OperandRow(n), live);
     }
     live
 }
@@ -157,7 +150,7 @@ fn with_uses(t: &[u32], places: &[u32], rows: Range, mut live: SlotSet) -> SlotS
     let mut n = rows.to;
     while rows.from < n {
         n -= 1;
-        live = with_use(t, places, n, live);
+        live = with_use(t, places, OperandRow(n), live);
     }
     live
 }

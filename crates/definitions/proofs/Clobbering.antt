@@ -1,4 +1,4 @@
--- Clobbered units, tested by the set of those that the instruction itself defines. Assumes nothing.
+-- `clobber` and `forget_others` of src/lib.rt: clobbered units, tested by the set of those that the instruction itself defines. Assumes nothing.
 use mathlib.Core.Path.{_≡_, refl, sym, ap, _∙_}
 use mathlib.Core.Bool.{Bool, true, false, not, and-false}
 use mathlib.Core.List.{List, [], _∷_, _++_, flatMap}
@@ -15,10 +15,9 @@ use Rattle.laws.proofs.Cases.{by-bool}
 use Rattle.bits.specs.Sets.{has}
 use Rattle.bits.specs.declared.sets.NumberSet.{NumberSet}
 use Rattle.entity.specs.Limits.{unitLimit}
-use Rattle.entity.specs.declared.record.Record.{Record}
 use Rattle.rules.specs.Sheet.{Sheet, ListRow, clobbersOf, listAt}
 use Rattle.rules.specs.Accept.{withinLimits, unitsWithin}
-use Rattle.rules.specs.Record.{forgetUnit}
+use Rattle.rules.specs.Record.{Record, forgetUnit}
 use Rattle.rules.specs.Forward.{clobber}
 use Rattle.table.specs.Sheet.{sheetIn}
 use Rattle.table.specs.Index.{Ready}

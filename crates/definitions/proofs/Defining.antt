@@ -1,11 +1,12 @@
--- What an operand defines, by its kind, and what a pass takes of it. Assumes nothing.
+-- `define_operand`, `define_group` and `define_all` of src/lib.rt: what an operand defines, by its kind, and what a pass takes of it (`taken` of
+-- specs/Definitions.antt). Assumes nothing.
 use mathlib.Core.Path.{_≡_, refl, sym, ap, _∙_}
-use mathlib.Core.Bool.{Bool, true, false, cond, _||_}
+use mathlib.Core.Bool.{Bool, true, false, cond}
 use mathlib.Core.List.{List, [], _∷_, flatMap, zipWith}
 use mathlib.Core.Option.{Option, Option·getD}
 use Prim.Native.Nat.{ℕ}
 use Rattle.laws.specs.Fold.{run}
-use Rattle.entity.specs.declared.record.Record.{Record}
+use Rattle.laws.proofs.Cases.{by-bool}
 use Rattle.entity.specs.declared.forms.Place.{Place}
 use Rattle.entity.specs.declared.forms.Place.the-variants.{Reg, Slot}
 use Rattle.entity.specs.declared.forms.OperandKind.{OperandKind}
@@ -15,10 +16,10 @@ use Rattle.entity.specs.declared.numbers.SpillSlot.{SpillSlot}
 use Rattle.entity.specs.declared.numbers.RegClass.{RegClass}
 use Rattle.entity.specs.declared.numbers.Value.{Value}
 use Rattle.entity.specs.declared.numbers.ValueGroup.{ValueGroup}
-use Rattle.rules.specs.Sheet.{Sheet, OpRow, is, kindWord, subjectOf, valuesOf}
+use Rattle.rules.specs.Sheet.{Sheet, OpRow, isEarly, valuesOf}
 use Rattle.rules.specs.Accept.{classFor}
-use Rattle.rules.specs.Record.{define}
-use Rattle.rules.specs.Forward.{groupRegs, members, definesAs, defineAll}
+use Rattle.rules.specs.Record.{Record, define}
+use Rattle.rules.specs.Forward.{groupRegs, members, allDefs, defineAll}
 use Rattle.table.specs.View.{operandOf}
 use Rattle.table.specs.declared.view.Operand.{Operand}
 use Rattle.operands.specs.Operands.{asRow, classFound}
@@ -27,102 +28,54 @@ use Rattle.operands.specs.declared.FoundClass.the-variants as FoundClass
 use Rattle.operands.proofs.Finding.{class-lost, class-found}
 use Rattle.record.specs.Flat.{recordIn, Long, Becomes}
 use Rattle.record.proofs.Changes.{becomes-same, becomes-as}
-use Rattle.definitions.specs.Definitions.{taken, takesEarly, takesOther, atReg, membersOf}
+use Rattle.definitions.specs.Definitions.{taken, takesEarly, takesOther, atReg}
 use Rattle.definitions.specs.declared.Pass.{Pass}
 use Rattle.definitions.specs.declared.Pass.the-variants.{Early, Other, All}
 use Rattle.definitions.proofs.Loops.{run-flat}
 
--- ---- what a pass takes of an operand: of one value, `one`; of a group, `ms`
+-- ---- what a pass takes of an operand
 
 abbrev Defs : Type 0
 Defs = List (ℕ × Place)
 
-abbrev chosen : Pass → OperandKind → Defs → Defs → Defs
-chosen Early k one ms = cond (is "early" k) one (cond (is "earlyg" k) ms [])
-chosen Other k one ms = cond (is "def" k) one (cond (is "defg" k) ms [])
-chosen All k one ms = cond (is "def" k || is "early" k) one (cond (is "defg" k || is "earlyg" k) ms [])
+taken-by : (sh : Sheet) (o : OpRow) (pass : Pass) → taken sh pass o ≡ cond (cond (isEarly (o .kind)) (takesEarly pass) (takesOther pass)) (allDefs sh o) []
+unfolding taken takesEarly takesOther
+taken-by sh o Early = by-bool (isEarly (o .kind)) (λ q. rw q) (λ q. rw q)
+taken-by sh o Other = by-bool (isEarly (o .kind)) (λ q. rw q) (λ q. rw q)
+taken-by sh o All = by-bool (isEarly (o .kind)) (λ q. rw q) (λ q. rw q)
 
-taken-is : (sh : Sheet) (pass : Pass) (o : OpRow) → taken sh pass o ≡ chosen pass (o .kind) ((subjectOf (o .kind), o .place) ∷ []) (members sh o)
-unfolding taken definesAs
-taken-is sh Early o = refl
-taken-is sh Other o = refl
-taken-is sh All o = refl
-
-module _ (one ms : Defs) where
-  chosen-def : (v : Value) (pass : Pass) → chosen pass (Def v) one ms ≡ cond (takesOther pass) one []
-  unfolding takesOther takesEarly is kindWord
-  chosen-def v Early = refl
-  chosen-def v Other = refl
-  chosen-def v All = refl
-
-  chosen-early : (v : Value) (pass : Pass) → chosen pass (EarlyDef v) one ms ≡ cond (takesEarly pass) one []
-  unfolding takesOther takesEarly is kindWord
-  chosen-early v Early = refl
-  chosen-early v Other = refl
-  chosen-early v All = refl
-
-  chosen-defs : (g : ValueGroup) (pass : Pass) → chosen pass (DefGroup g) one ms ≡ cond (takesOther pass) ms []
-  unfolding takesOther takesEarly is kindWord
-  chosen-defs g Early = refl
-  chosen-defs g Other = refl
-  chosen-defs g All = refl
-
-  chosen-earlies : (g : ValueGroup) (pass : Pass) → chosen pass (EarlyDefGroup g) one ms ≡ cond (takesEarly pass) ms []
-  unfolding takesOther takesEarly is kindWord
-  chosen-earlies g Early = refl
-  chosen-earlies g Other = refl
-  chosen-earlies g All = refl
-
-  chosen-use : (v : Value) (pass : Pass) → chosen pass (Use v) one ms ≡ []
-  unfolding takesOther takesEarly is kindWord
-  chosen-use v Early = refl
-  chosen-use v Other = refl
-  chosen-use v All = refl
-
-  chosen-uses : (g : ValueGroup) (pass : Pass) → chosen pass (UseGroup g) one ms ≡ []
-  unfolding takesOther takesEarly is kindWord
-  chosen-uses g Early = refl
-  chosen-uses g Other = refl
-  chosen-uses g All = refl
-
-  chosen-fixed : (pass : Pass) → chosen pass NonAllocatable one ms ≡ []
-  unfolding takesOther takesEarly is kindWord
-  chosen-fixed Early = refl
-  chosen-fixed Other = refl
-  chosen-fixed All = refl
+none-or-none : (b : Bool) → _≡_ {A = Defs} (cond b [] []) []
+none-or-none true = refl
+none-or-none false = refl
 
 module _ (sh : Sheet) (o : OpRow) {k : OperandKind} (e : k ≡ o .kind) (pass : Pass) where
-  by-kind : {c : OperandKind} → k ≡ c → taken sh pass o ≡ chosen pass c ((subjectOf c, o .place) ∷ []) (members sh o)
-  by-kind q = taken-is sh pass o ∙ ap (λ (c : OperandKind). chosen pass c ((subjectOf c, o .place) ∷ []) (members sh o)) (sym e ∙ q)
-
-  as-members : (g : ℕ) → subjectOf (o .kind) ≡ g → members sh o ≡ membersOf sh o g
-  unfolding members membersOf
-  as-members g q = rw (← q)
-
   pub taken-def : (v : Value) → k ≡ Def v → taken sh pass o ≡ cond (takesOther pass) ((v .0, o .place) ∷ []) []
-  unfolding subjectOf
-  taken-def v q = by-kind q ∙ chosen-def _ _ v pass
+  unfolding isEarly allDefs
+  taken-def v q = taken-by sh o pass ∙ rw (sym e ∙ q)
 
   pub taken-early : (v : Value) → k ≡ EarlyDef v → taken sh pass o ≡ cond (takesEarly pass) ((v .0, o .place) ∷ []) []
-  unfolding subjectOf
-  taken-early v q = by-kind q ∙ chosen-early _ _ v pass
+  unfolding isEarly allDefs
+  taken-early v q = taken-by sh o pass ∙ rw (sym e ∙ q)
 
-  pub taken-defs : (g : ValueGroup) → k ≡ DefGroup g → taken sh pass o ≡ cond (takesOther pass) (membersOf sh o (g .0)) []
-  unfolding subjectOf
-  taken-defs g q = by-kind q ∙ chosen-defs _ _ g pass ∙ ap (λ (ms : Defs). cond (takesOther pass) ms []) (as-members (g .0) (ap subjectOf (sym e ∙ q)))
+  pub taken-defs : (g : ValueGroup) → k ≡ DefGroup g → taken sh pass o ≡ cond (takesOther pass) (members sh o (g .0)) []
+  unfolding isEarly allDefs
+  taken-defs g q = taken-by sh o pass ∙ rw (sym e ∙ q)
 
-  pub taken-earlies : (g : ValueGroup) → k ≡ EarlyDefGroup g → taken sh pass o ≡ cond (takesEarly pass) (membersOf sh o (g .0)) []
-  unfolding subjectOf
-  taken-earlies g q = by-kind q ∙ chosen-earlies _ _ g pass ∙ ap (λ (ms : Defs). cond (takesEarly pass) ms []) (as-members (g .0) (ap subjectOf (sym e ∙ q)))
+  pub taken-earlies : (g : ValueGroup) → k ≡ EarlyDefGroup g → taken sh pass o ≡ cond (takesEarly pass) (members sh o (g .0)) []
+  unfolding isEarly allDefs
+  taken-earlies g q = taken-by sh o pass ∙ rw (sym e ∙ q)
 
   pub taken-use : (v : Value) → k ≡ Use v → taken sh pass o ≡ []
-  taken-use v q = by-kind q ∙ chosen-use _ _ v pass
+  unfolding isEarly allDefs
+  taken-use v q = taken-by sh o pass ∙ rw (sym e ∙ q) (none-or-none (takesOther pass))
 
   pub taken-uses : (g : ValueGroup) → k ≡ UseGroup g → taken sh pass o ≡ []
-  taken-uses g q = by-kind q ∙ chosen-uses _ _ g pass
+  unfolding isEarly allDefs
+  taken-uses g q = taken-by sh o pass ∙ rw (sym e ∙ q) (none-or-none (takesOther pass))
 
   pub taken-fixed : k ≡ NonAllocatable → taken sh pass o ≡ []
-  taken-fixed q = by-kind q ∙ chosen-fixed _ _ pass
+  unfolding isEarly allDefs
+  taken-fixed q = taken-by sh o pass ∙ rw (sym e ∙ q) (none-or-none (takesOther pass))
 
 -- ---- the record, by what is taken
 
@@ -170,17 +123,17 @@ module _ (sh : Sheet) (o : Operand) (g : ℕ) where
   abbrev membersBy : Place → Defs
   membersBy p = elim p [ Reg r ↦ zipWith atReg (valuesOf sh g) (groupRegs sh (Option·getD (classFor sh (asRow o)) 0) (r .0)) | Slot t ↦ [] ]
 
-  members-by : membersOf sh (asRow o) g ≡ membersBy (o .place)
-  unfolding membersOf asRow
+  members-by : members sh (asRow o) g ≡ membersBy (o .place)
+  unfolding members asRow
   members-by = refl
 
-  pub members-slot : (s : SpillSlot) → o .place ≡ Slot s → membersOf sh (asRow o) g ≡ []
+  pub members-slot : (s : SpillSlot) → o .place ≡ Slot s → members sh (asRow o) g ≡ []
   members-slot s e = members-by ∙ ap membersBy e
 
-  pub members-reg : (r : PhysReg) → o .place ≡ Reg r → {vs rs : List ℕ} → vs ≡ valuesOf sh g → rs ≡ groupRegs sh (Option·getD (classFor sh (asRow o)) 0) (r .0) → zipWith atReg vs rs ≡ membersOf sh (asRow o) g
+  pub members-reg : (r : PhysReg) → o .place ≡ Reg r → {vs rs : List ℕ} → vs ≡ valuesOf sh g → rs ≡ groupRegs sh (Option·getD (classFor sh (asRow o)) 0) (r .0) → zipWith atReg vs rs ≡ members sh (asRow o) g
   members-reg r e p q = rw (p, q) (sym (members-by ∙ ap membersBy e))
 
 -- the operand that is read off its row
-pub members-row : (sh : Sheet) (o : OpRow) (g : ℕ) {u : Operand} → u ≡ operandOf o → membersOf sh (asRow u) g ≡ membersOf sh o g
+pub members-row : (sh : Sheet) (o : OpRow) (g : ℕ) {u : Operand} → u ≡ operandOf o → members sh (asRow u) g ≡ members sh o g
 unfolding asRow
 members-row sh o g e = rw e

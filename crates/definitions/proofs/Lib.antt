@@ -1,4 +1,4 @@
 pub mod Loops
 pub mod Defining
-pub mod Owning
+pub mod OwnUnits
 pub mod Clobbering

@@ -1,4 +1,4 @@
--- Loops over what is left of a list: the record run through it, and the set that gathers units. Assumes nothing.
+-- The loops of src/lib.rt over what is left of a list: the record run through it, and the set that gathers units. Assumes nothing.
 use mathlib.Core.Path.{_≡_, refl, sym, ap, _∙_}
 use mathlib.Core.Bool.{Bool, false, _||_, or-assoc, or-false}
 use mathlib.Core.List.{List, [], _∷_, _++_, flatMap, zipWith}
@@ -10,11 +10,11 @@ use lib.ListN.{length, getD, drop, drop-of-length-le}
 use lib.Seq.{drop-cons}
 use Rattle.laws.specs.Fold.{run}
 use Rattle.laws.specs.Lists.{any, isIn}
-use Rattle.laws.proofs.Cases.{by-bool}
+use Rattle.laws.proofs.Lists.{is-append}
 use Rattle.bits.specs.Sets.{has, setOf, setLimit}
 use Rattle.bits.specs.declared.sets.NumberSet.{NumberSet}
 use Rattle.bits.proofs.Members.{has-setOf}
-use Rattle.entity.specs.declared.record.Record.{Record}
+use Rattle.rules.specs.Record.{Record}
 use Rattle.record.specs.Flat.{recordIn, Long, Becomes}
 use Rattle.definitions.specs.Definitions.{With, Only}
 
@@ -78,11 +78,6 @@ module _ {A : Type 0} (f : Record → A → Record) where
 
 -- ---- the set: what is left of the list, added, gives the set with all
 
-in-append : (k : ℕ) (xs ys : List ℕ) → isIn k (xs ++ ys) ≡ (isIn k xs || isIn k ys)
-unfolding isIn any
-in-append k [] ys = refl
-in-append k (x ∷ xs) ys = by-bool (eqb k x) (λ e. rw e) (λ e. rw e (in-append k xs ys))
-
 pub with-none : (s : NumberSet) → With s [] s
 unfolding isIn any
 with-none s = record { each = λ k h. sym (or-false (has s k)) }
@@ -106,7 +101,7 @@ module _ {l all : List ℕ} {s₀ s : NumberSet} where
   gather-next xs {l′} e p w =
       record {
         same = λ k h.
-            rw (w .each k h) (or-assoc (has s k) (isIn k xs) (isIn k l′) ∙ sym (ap (λ (b : Bool). has s k || b) (ap (isIn k) e ∙ in-append k xs l′)) ∙ p .same k h);
+            rw (w .each k h) (or-assoc (has s k) (isIn k xs) (isIn k l′) ∙ sym (ap (λ (b : Bool). has s k || b) (ap (isIn k) e ∙ is-append k xs l′)) ∙ p .same k h);
       }
 
   pub gather-end : l ≡ [] → Gathering l all s₀ s → With s₀ all s
@@ -116,15 +111,6 @@ module _ {l all : List ℕ} {s₀ s : NumberSet} where
 -- from nothing
 pub only-with : {s₀ s : NumberSet} {us : List ℕ} → s₀ ≡ setOf (λ k. false) → With s₀ us s → Only s us
 only-with {s₀} {s} {us} e w = record { each = λ k h. w .each k h ∙ ap (λ (b : Bool). b || isIn k us) (ap (λ (x : NumberSet). has x k) e ∙ has-setOf (λ k. false) k h) }
-
--- ---- one list
-
-module _ (us : List ℕ) (k : ℕ) where
-  pub drop-here : k < length us → drop k us ≡ getD us k 0 ∷ drop (k + 1) us
-  drop-here h = rw (drop-cons us k 0 h, add-one k)
-
-  pub drop-past : length us ≤ k → drop k us ≡ []
-  drop-past h = drop-of-length-le us h
 
 -- ---- a list of lists
 

@@ -2,17 +2,16 @@
 -- preparing walk of `Global` .. takes operands in row order." And the units that an instruction itself defines, as a set.
 use mathlib.Core.Path.{_≡_}
 use mathlib.Core.Bool.{Bool, true, false, _||_}
-use mathlib.Core.List.{List, [], flatMap, zipWith}
-use mathlib.Core.Option.{Option·getD}
+use mathlib.Core.List.{List, flatMap}
 use Prim.Native.Nat.{ℕ, _<_}
 use Rattle.laws.specs.Lists.{isIn}
 use Rattle.bits.specs.Sets.{has, setLimit}
 use Rattle.bits.specs.declared.sets.NumberSet.{NumberSet}
 use Rattle.entity.specs.declared.forms.Place.{Place}
-use Rattle.entity.specs.declared.forms.Place.the-variants.{Reg, Slot}
-use Rattle.rules.specs.Sheet.{Sheet, OpRow, valuesOf}
-use Rattle.rules.specs.Accept.{operandsAt, classFor}
-use Rattle.rules.specs.Forward.{earlyDefs, otherDefs, allDefs, groupRegs, placeUnits}
+use Rattle.entity.specs.declared.forms.Place.the-variants.{Reg}
+use Rattle.rules.specs.Sheet.{Sheet, OpRow}
+use Rattle.rules.specs.Accept.{operandsAt}
+use Rattle.rules.specs.Forward.{earlyDefs, otherDefs, allDefs, placeUnits}
 use Rattle.definitions.specs.declared.Pass.{Pass}
 use Rattle.definitions.specs.declared.Pass.the-variants.{Early, Other, All}
 
@@ -37,10 +36,6 @@ abbrev pub atReg : ℕ → ℕ → ℕ × Place
 atReg v q = (v, Reg (record { 0 = q }))
 
 module _ (sh : Sheet) where
-  -- the values of group g, each at a register of the group that operand o begins
-  unfoldable pub membersOf : OpRow → ℕ → List (ℕ × Place)
-  membersOf o g = elim (o .place) [ Reg r ↦ zipWith atReg (valuesOf sh g) (groupRegs sh (Option·getD (classFor sh o) 0) (r .0)) | Slot t ↦ [] ]
-
   -- the units of the places at which values are defined
   abbrev pub unitsAt : List (ℕ × Place) → List ℕ
   unitsAt ds = flatMap (λ d. placeUnits sh (d .1)) ds

@@ -9,13 +9,13 @@ ghost use Rattle.bits.specs.Sets.{has};
 ghost use Rattle.rules.specs.Sheet.{unitsOf};
 ghost use Rattle.rules.specs.Accept.{operandsAt, classFor};
 ghost use Rattle.rules.specs.Record.{forgetUnit};
-ghost use Rattle.rules.specs.Forward.{groupRegs, allDefs, defineAll, placeUnits, clobber};
+ghost use Rattle.rules.specs.Forward.{groupRegs, members, allDefs, defineAll, placeUnits, clobber};
 ghost use Rattle.table.specs.Sheet.{sheetIn};
 ghost use Rattle.table.specs.Index.{Ready};
 ghost use Rattle.table.specs.View.{opRow};
 ghost use Rattle.operands.specs.Operands.{asRow};
 ghost use Rattle.record.specs.Flat.{recordIn, Long, Becomes};
-ghost use Rattle.definitions.specs.Definitions.{taken, takesEarly, takesOther, atReg, membersOf, unitsAt, ownUnits, With, Only};
+ghost use Rattle.definitions.specs.Definitions.{taken, takesEarly, takesOther, atReg, unitsAt, ownUnits, With, Only};
 use entity::forms::OperandKind;
 use entity::forms::Place;
 use entity::numbers::Block;
@@ -97,14 +97,14 @@ fn define_members(t: &[u32], rec: &mut [u32; LENGTH], b: Block, vs: &[u32], rs: 
         if rs.len() <= k {
             return;
         }
-        define(t, rec, b, Value(vs[k]), Place::Reg(PhysReg(rs[k])));
+        define(t, rec, b, Value(vs[k]), Place::reg(PhysReg(rs[k])));
         k += 1;
     }
 }
 
 // Group definitions define member by member.
 fn define_group(t: &[u32], rec: &mut [u32; LENGTH], b: Block, o: Operand, g: ValueGroup)
-    ensures { λ _. ⌜ (Ready (now (t .entry)) → Long (now (rec .entry)) → Becomes (now (rec .entry)) (now (rec .exit)) (defineAll (sheetIn (now (t .entry))) (b .0) (membersOf (sheetIn (now (t .entry))) (asRow o) (g .0)) (recordIn (now (rec .entry))))) ⌝ }
+    ensures { λ _. ⌜ (Ready (now (t .entry)) → Long (now (rec .entry)) → Becomes (now (rec .entry)) (now (rec .exit)) (defineAll (sheetIn (now (t .entry))) (b .0) (members (sheetIn (now (t .entry))) (asRow o) (g .0)) (recordIn (now (rec .entry))))) ⌝ }
 {
     let place = o.place;
     match place {
@@ -194,7 +194,7 @@ fn add_place(t: &[u32], own: UnitSet, place: Place) -> UnitSet
 }
 
 fn add_group(t: &[u32], own: UnitSet, o: Operand, g: ValueGroup) -> UnitSet
-    ensures { λ s. ⌜ (Ready (now (t .entry)) → With (own .0) (unitsAt (sheetIn (now (t .entry))) (membersOf (sheetIn (now (t .entry))) (asRow o) (g .0))) (s .0)) ⌝ }
+    ensures { λ s. ⌜ (Ready (now (t .entry)) → With (own .0) (unitsAt (sheetIn (now (t .entry))) (members (sheetIn (now (t .entry))) (asRow o) (g .0))) (s .0)) ⌝ }
 {
     let place = o.place;
     match place {

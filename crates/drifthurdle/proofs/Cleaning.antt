@@ -1,13 +1,14 @@
--- From the walk before the first block to the text of the answer: the forward rules, the sweep, the rows that stand in the cells. Assumes nothing.
+-- For `cleaned` of src/lib.rt, from the walk before the first block to the text of the answer: the forward rules, the sweep, the rows that stand in the cells. Assumes nothing.
 use mathlib.Core.Path.{_≡_, refl, sym, _∙_, ap₂}
 use mathlib.Core.Bool.{Bool, true, false}
 use mathlib.Core.List.{List, zip}
 use mathlib.Core.Option.{none}
-use Prim.Native.Nat.{ℕ, _+_, _<_}
+use Prim.Native.Nat.{ℕ, _+_, _*_, _<_}
 use native.Mathlib.Omega.{arith}
 use lib.ListN.{length, replicate}
 use lib.Seq.{take-all}
 use Rattle.laws.specs.Fold.{run}
+use Rattle.entity.specs.Limits.{editLimit, operandLimit}
 use Rattle.entity.specs.declared.forms.Place.{Place}
 use Rattle.entity.specs.declared.forms.Place.the-variants.{Reg}
 use Rattle.entity.specs.declared.forms.Edit.{Edit}
@@ -19,6 +20,7 @@ use Rattle.rules.specs.Forward.{Walk, optimise, start}
 use Rattle.rules.specs.Function.{edit, slotOf, funcOf}
 use Rattle.rules.specs.Sweep.{ends, struck, strikeBlocks, sweep}
 use Rattle.rules.specs.Answer.{firstRefusal, checks, output, cleaned, fitted}
+use Rattle.table.specs.Layout.{editWidth}
 use Rattle.table.specs.Rows.{countIn}
 use Rattle.table.specs.Sheet.{sheetIn}
 use Rattle.table.specs.Index.{Ready}
@@ -31,7 +33,7 @@ use Rattle.accepted.proofs.Giving.{gives, lists-agree}
 use Rattle.dead_spill_elimination.specs.Slots.{Low, LowReads}
 use Rattle.dead_spill_elimination.specs.Held.{Held, Swept, theEdits, sweptEdits}
 use Rattle.answer.specs.Rows.{Stands}
-use Rattle.moves.specs.Walks.{Ordered, Written}
+use Rattle.moves.specs.Walks.{Ordered, Written, walkMost}
 use Rattle.drifthurdle.specs.Loading.{EditsLoaded, PlacesLoaded}
 use Rattle.drifthurdle.specs.Call.{Gives}
 use Rattle.drifthurdle.specs.declared.Outcome.{Outcome}
@@ -49,8 +51,8 @@ module _ {t : List ℕ} (g : Ready t) (pass : firstRefusal (checks (sheetIn t)) 
 
   -- ---- after the forward rules
 
-  pub optimised-written : {e p e′ p′ c′ : List ℕ} → EditsLoaded t e (countIn t 12) → length e ≡ 4096 → PlacesLoaded t p (countIn t 10) → length p ≡ 2048
-      → (Ordered t → (n : ℕ) (w : Walk) → w .rec ≡ fresh → Written t e p (replicate 9 0) (n + 200000000) w → Written t e′ p′ c′ n (optimise sh level w))
+  pub optimised-written : {e p e′ p′ c′ : List ℕ} → EditsLoaded t e (countIn t 12) → length e ≡ editLimit * editWidth → PlacesLoaded t p (countIn t 10) → length p ≡ operandLimit
+      → (Ordered t → (n : ℕ) (w : Walk) → w .rec ≡ fresh → Written t e p (replicate 9 0) (n + walkMost) w → Written t e′ p′ c′ n (optimise sh level w))
       → Written t e′ p′ c′ 4000000000 w
   unfolding start
   optimised-written {e} {p} E x P y O =
@@ -61,11 +63,8 @@ module _ {t : List ℕ} (g : Ready t) (pass : firstRefusal (checks (sheetIn t)) 
     plain-stands =
         record {
           ready = g;
-          edit-cells = W .edit-cells;
-          place-cells = W .place-cells;
+          in-cells = W .in-cells;
           enough = omega arith;
-          is-edits = W .is-edits;
-          is-places = W .is-places;
           is-counts = W .is-counts ∙ sym (take-all 9 c (omega arith));
         }
 
@@ -75,11 +74,11 @@ module _ {t : List ℕ} (g : Ready t) (pass : firstRefusal (checks (sheetIn t)) 
     within = walk-in sh level (g .limits) (g .names)
 
     low-edit : (j : ℕ) → j < length (sh .edits) → LowReads (edit (editIn e j))
-    low-edit j h = rw (W .is-edits, edits-at e (length (sh .edits)) j Nothing h) at (within .1 j)
+    low-edit j h = rw (W .in-cells .is-edits, edits-at e (length (sh .edits)) j Nothing h) at (within .1 j)
 
     low-place : (n : ℕ) → n < length (sh .ops) → Low (slotOf (placeIn p n))
     unfolding slotOf
-    low-place n h = rw (W .is-places, places-at p (length (sh .ops)) n (Reg (record { 0 = 0 })) h) at (within .0 n (Reg (record { 0 = 0 })) (λ s y. absurd y))
+    low-place n h = rw (W .in-cells .is-places, places-at p (length (sh .ops)) n (Reg (record { 0 = 0 })) h) at (within .0 n (Reg (record { 0 = 0 })) (λ s y. absurd y))
 
     held : Held t e p c
     held =
@@ -96,11 +95,11 @@ module _ {t : List ℕ} (g : Ready t) (pass : firstRefusal (checks (sheetIn t)) 
     module _ {e′ c′ : List ℕ} (S : Held t e p c → Swept t e p c e′ c′) (long′ : length c′ ≡ 9) where
       swept-edits : sweep sh w .edits ≡ sweptEdits t e p
       unfolding sweep
-      swept-edits = ap₂ (λ (ps : List Place) (es : List Edit). strikeBlocks sh ps es (ends (funcOf sh ps es))) (W .is-places) (W .is-edits)
+      swept-edits = ap₂ (λ (ps : List Place) (es : List Edit). strikeBlocks sh ps es (ends (funcOf sh ps es))) (W .in-cells .is-places) (W .in-cells .is-edits)
 
       swept-counts : sweep sh w .counts ≡ run struck c (zip (theEdits t e) (sweptEdits t e p))
       unfolding sweep
-      swept-counts = rw (W .is-counts, W .is-edits, W .is-places)
+      swept-counts = rw (W .is-counts, W .in-cells .is-edits, W .in-cells .is-places)
 
       same-places : sweep sh w .places ≡ w .places
       unfolding sweep
@@ -111,11 +110,13 @@ module _ {t : List ℕ} (g : Ready t) (pass : firstRefusal (checks (sheetIn t)) 
           let s = S held in
           record {
             ready = g;
-            edit-cells = λ n h. s .cells-kept n h (W .edit-cells n h);
-            place-cells = W .place-cells;
+            in-cells = record {
+              edit-cells = λ n h. s .cells-kept n h (W .in-cells .edit-cells n h);
+              is-edits = swept-edits ∙ sym (s .edits-are);
+              place-cells = W .in-cells .place-cells;
+              is-places = same-places ∙ W .in-cells .is-places;
+            };
             enough = omega arith;
-            is-edits = swept-edits ∙ sym (s .edits-are);
-            is-places = same-places ∙ W .is-places;
             is-counts = swept-counts ∙ sym (s .counts-are) ∙ sym (take-all 9 c′ (omega arith));
           }
 

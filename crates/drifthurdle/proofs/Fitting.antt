@@ -1,4 +1,4 @@
--- The answer's text in the buffer, where it fits and where it does not. Assumes nothing.
+-- For `fitted` of src/lib.rt: the answer's text in the buffer, where it fits and where it does not. Assumes nothing.
 use mathlib.Core.Path.{_≡_, refl, _∙_, ap}
 use mathlib.Core.List.{List}
 use Prim.Native.Nat.{ℕ, _≤_, _<_}

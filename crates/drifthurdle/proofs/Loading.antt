@@ -1,4 +1,4 @@
--- The sheet's edits and places in cells: the loops that load them, and the walk that then stands there. Assumes nothing.
+-- For `load_edits` and `load_places` of src/lib.rt, the sheet's edits and places in cells: the loops that load them, and the walk that then stands there. Assumes nothing.
 --     edits-first, edits-next      the loop over edit rows
 --     places-first, places-next    that over operand rows
 --     storable                     an accepted sheet's edits can be loaded
@@ -6,21 +6,26 @@
 use mathlib.Core.Path.{_≡_, refl, sym, _∙_, ap}
 use mathlib.Core.Bool.{true, _&&_}
 use mathlib.Core.List.{List, map}
-use Prim.Native.Nat.{ℕ, zero, suc, _+_, _*_, _≤_, _<_}
+use Prim.Native.Nat.{ℕ, _+_, _*_, _≤_, _<_}
 use native.Mathlib.Omega.{arith}
 use lib.ListN.{length, getD, set, replicate, length-map, List·getD-map}
 use lib.Seq.{ext-getD, getD-set-same, getD-set-other}
 use borrow.Author.Tests.{ltb-true}
 use Rattle.laws.proofs.Cases.{by-eq}
+use Rattle.laws.proofs.Lists.{zeros}
+use Rattle.entity.specs.Limits.{editLimit, operandLimit}
 use Rattle.entity.specs.declared.forms.Place.{Place}
 use Rattle.entity.specs.declared.forms.Place.the-variants.{Reg, Slot}
 use Rattle.entity.specs.declared.forms.Constraint.the-variants.{Class}
 use Rattle.entity.specs.declared.forms.OperandKind.the-variants.{NonAllocatable}
 use Rattle.entity.specs.declared.forms.Edit.{Edit}
 use Rattle.entity.specs.declared.forms.Edit.the-variants.{Move, Remat, Espill, Ereload, Misplaced, Nothing}
+use Rattle.rules.specs.Cells.{numberLimit}
 use Rattle.rules.specs.Sheet.{Sheet, EditRow, OpRow, field, placeOf}
 use Rattle.rules.specs.Accept.{regExists, slotExists, valueExists, placeExists, instExists, editNames, placed}
 use Rattle.rules.specs.Forward.{start}
+use Rattle.rules.proofs.Refusals.{all-named, each-named}
+use Rattle.table.specs.Layout.{editWidth}
 use Rattle.table.specs.Rows.{countIn, kindRow}
 use Rattle.table.specs.Sheet.{sheetIn}
 use Rattle.table.specs.Index.{Ready}
@@ -30,7 +35,6 @@ use Rattle.table.specs.Written.{SmallValue, EditCells}
 use Rattle.table.proofs.Loops.{and-left, and-right, all-at}
 use Rattle.table.proofs.Sheets.{edits-are, ops-are, long-of, part-of}
 use Rattle.table.proofs.Stored.{edits-length, edits-at, places-length, places-at, with-same, with-other, read-back, cells-same, cells-other, sheet-edit-is}
-use Rattle.run.proofs.Within.{rows-named}
 use Rattle.accepted.specs.Accepted.{Accepted}
 use Rattle.answer.proofs.Ops.{op-place}
 use Rattle.moves.specs.Walks.{Written}
@@ -42,13 +46,13 @@ use Rattle.drifthurdle.specs.Loading.{Storable, EditsLoaded, PlacesLoade
 pub record Edits (t edits₀ : List ℕ) (rows : ℕ) (edits : List ℕ) (n : ℕ) : Type 0 where
   pub within : n ≤ rows
   pub long : length edits ≡ length edits₀
-  pub loaded : ((j : ℕ) → j < countIn t 12 → Storable (editAtRow t j)) → countIn t 12 * 4 ≤ length edits₀ → EditsLoaded t edits n
+  pub loaded : ((j : ℕ) → j < countIn t 12 → Storable (editAtRow t j)) → countIn t 12 * editWidth ≤ length edits₀ → EditsLoaded t edits n
 
 pub edits-first : (t edits : List ℕ) (rows : ℕ) → Edits t edits rows edits 0
 edits-first t edits rows =
     record { within = omega arith; long = refl; loaded = λ s r. record { exact = λ j h. absurd (omega arith); are = λ j h. absurd (omega arith) } }
 
-module _ (cells : List ℕ) (n : ℕ) {e : Edit} (s : Storable e) (room : n * 4 + 3 < length cells) where
+module _ (cells : List ℕ) (n : ℕ) {e : Edit} (s : Storable e) (room : n * editWidth + 3 < length cells) where
   stored-exact : (j : ℕ) → j < n + 1 → ((j : ℕ) → j < n → EditCells cells j) → EditCells (withEdit cells n e) j
   stored-exact j h x = by-eq j n (λ q. rw q (cells-same cells n e room (s .is-placed) (s .small) (s .value))) (λ q. cells-other cells n e j q (x j (omega arith)))
 
@@ -67,13 +71,13 @@ edits-next {t} {cells = cells} {e = e} {n = n} g h m q l w =
       loaded = λ s r.
           let x = g .loaded s r in
           let y : Storable e = rw q (s n (omega arith)) in
-          let room : n * 4 + 3 < length cells = omega (arith, g .long) in
+          let room : n * editWidth + 3 < length cells = omega (arith, g .long) in
           rw (w (y .small))
           (record { exact = λ j k. stored-exact cells n y room j k (x .exact); are = λ j k. stored-is cells n y room t q j k (x .are) });
     }
 
 pub edits-done : {t edits₀ cells : List ℕ} {n rows : ℕ} → rows ≡ countIn t 12 → Edits t edits₀ rows cells n → rows ≤ n
-    → ((j : ℕ) → j < countIn t 12 → Storable (editAtRow t j)) → countIn t 12 * 4 ≤ length edits₀ → EditsLoaded t cells (countIn t 12)
+    → ((j : ℕ) → j < countIn t 12 → Storable (editAtRow t j)) → countIn t 12 * editWidth ≤ length edits₀ → EditsLoaded t cells (countIn t 12)
 edits-done {t} {n = n} q g h s r = let e : n ≡ countIn t 12 = omega (arith, g .within) in rw e at (g .loaded s r)
 
 -- the places before operand row n
@@ -103,11 +107,6 @@ places-done {t} {n = n} q g h r = let e : n ≡ countIn t 10 = omega (arith, g .
 
 -- ---- an accepted sheet's edits
 
-zeros : (n k : ℕ) → _≡_ {A = ℕ} (getD (replicate n 0) k 0) 0
-zeros zero k = refl
-zeros (suc n) zero = refl
-zeros (suc n) (suc k) = zeros n k
-
 -- past the last operand
 abbrev no-op : OpRow
 no-op = record { at = 0; kind = NonAllocatable; constraint = Class (record { 0 = 0 }); place = Reg (record { 0 = 0 }) }
@@ -118,7 +117,7 @@ module _ (sh : Sheet) (a : Accepted sh) where
   place-small (Reg r) e = omega (arith, ltb-true (r .0) _ e, a .few-regs)
   place-small (Slot s) e = omega (arith, ltb-true (s .0) _ e, a .few-slots)
 
-  value-small : (v : ℕ) → valueExists sh v ≡ true → v < 100000
+  value-small : (v : ℕ) → valueExists sh v ≡ true → v < numberLimit
   value-small v e = omega (arith, ltb-true v _ e, a .few-values)
 
   names-small : (e : Edit) → editNames sh e ≡ true → SmallEdit e × SmallValue e
@@ -152,15 +151,15 @@ module _ {t : List ℕ} (g : Ready t) (a : Accepted (sheetIn t)) where
   storable j h =
       let l : j < length (sh .edits) = rw many-edits h in
       let d : EditRow = record { at = 0; edit = Nothing } in
-      let n = and-right (instExists sh (editRow sh j .at)) (editNames sh (editRow sh j .edit)) (all-at (λ e. instExists sh (e .at) && editNames sh (e .edit)) d (sh .edits) (rows-named sh (g .names) .1) j l) in
+      let n = and-right (instExists sh (editRow sh j .at)) (editNames sh (editRow sh j .edit)) (all-at (λ e. instExists sh (e .at) && editNames sh (e .edit)) d (sh .edits) (each-named sh (all-named sh (g .names)) .edits) j l) in
       let s = names-small sh a (editRow sh j .edit) n in
       let x : Storable (editRow sh j .edit) = record { is-placed = all-at (λ e. placed (e .edit)) d (sh .edits) (a .all-placed) j l; small = s .0; value = s .1 } in
       rw (edit-is j) at x
 
-  pub edits-fit : countIn t 12 * 4 ≤ 4096
+  pub edits-fit : countIn t 12 * editWidth ≤ editLimit * editWidth
   edits-fit = omega (arith, many-edits, a .few-edits)
 
-  pub places-fit : countIn t 10 ≤ 2048
+  pub places-fit : countIn t 10 ≤ operandLimit
   places-fit = omega (arith, many-ops, a .few-ops)
 
   module _ (edits places : List ℕ) (E : EditsLoaded t edits (countIn t 12)) (P : PlacesLoaded t places (countIn t 10)) where
@@ -187,16 +186,18 @@ module _ {t : List ℕ} (g : Ready t) (a : Accepted (sheetIn t)) where
         let k : j < countIn t 10 = rw many-ops at l in
         List·getD-map (λ (o : OpRow). o .place) (sh .ops) j no-op ∙ place-is j k ∙ sym (places-at places N j (no-op .place) l))
 
-    pub started : length edits ≡ 4096 → length places ≡ 2048 → Written t edits places (replicate 9 0) 4200000000 (start sh)
+    pub started : length edits ≡ editLimit * editWidth → length places ≡ operandLimit → Written t edits places (replicate 9 0) 4200000000 (start sh)
     unfolding start
     started x y =
         record {
           edit-room = omega (arith, many-edits, edits-fit);
-          edit-cells = λ j h. E .exact j (rw many-edits at h);
-          is-edits = started-edits;
           place-room = omega (arith, many-ops, places-fit);
-          place-cells = λ j h. let k : j < countIn t 10 = rw many-ops at h in rw (P j k) (op-place g j k);
-          is-places = started-places;
+          in-cells = record {
+            edit-cells = λ j h. E .exact j (rw many-edits at h);
+            is-edits = started-edits;
+            place-cells = λ j h. let k : j < countIn t 10 = rw many-ops at h in rw (P j k) (op-place g j k);
+            is-places = started-places;
+          };
           few = λ k. omega (arith, zeros 9 k);
           is-counts = refl;
         }

@@ -1,4 +1,4 @@
--- What the answers of the checks say of the first refusal, and what the call then answers. Assumes nothing.
+-- For `check`, `read_and_check` and `clean` of src/lib.rt: what the answers of the checks say of the first refusal, and what the call then answers. Assumes nothing.
 use mathlib.Core.Path.{_≡_, refl, sym, _∙_, ap}
 use mathlib.Core.Bool.{Bool, true, false, cond, not, false≢true}
 use mathlib.Core.List.{List}
@@ -9,7 +9,8 @@ use lib.Dec.{leb, eqb}
 use lib.IntN.{ℤ, pos, negℤ}
 use lib.ListN.{length}
 use borrow.Author.Tests.{le-leb, lt-leb, leb-true}
-use Rattle.laws.proofs.Cases.{by-bool}
+use Rattle.laws.proofs.Cases.{by-bool, by-option, some-ne-none}
+use Rattle.entity.specs.Limits.{byteLimit}
 use Rattle.entity.specs.Forms.{levelOf, refusalNumber}
 use Rattle.entity.specs.declared.forms.Level.{Level}
 use Rattle.entity.specs.declared.forms.FoundLevel.{FoundLevel}
@@ -40,19 +41,12 @@ pub is-true : {b : Bool} → not b ≡ false → b ≡ true
 is-true {b = true} e = refl
 is-true {b = false} e = absurd (false≢true (sym e))
 
-pub by-option : {A C : Type 0} (o : Option A) → (o ≡ none → C) → ((a : A) → o ≡ some a → C) → C
-by-option none f g = f refl
-by-option (some a) f g = g a refl
-
-pub some-ne-none : {A C : Type 0} {a : A} {o : Option A} → o ≡ some a → o ≡ none → C
-some-ne-none e f = let z : _≡_ {A = ℕ} 0 1 = cc in absurd (omega arith)
-
 -- ---- 1
 
 pub rows-ok : (s : List ℕ) (rs : List (List ℕ)) → rowsOf s ≡ some rs → sheetOk rs ≡ true
 unfolding rowsOf bind
 rows-ok s rs e =
-    by-bool (leb (length s) 65536)
+    by-bool (leb (length s) byteLimit)
     (λ p. let e′ : bind (cellsOf s) (λ rows. cond (sheetOk rows) (some rows) none) ≡ some rs = rw p at e in kept (cellsOf s) e′)
     (λ p. let e′ : none ≡ some rs = rw p at e in some-ne-none e′ refl)
   where
@@ -318,12 +312,12 @@ wrote sheet level flag capacity out e =
 
 -- ---- as a number
 
-outcome-refused : (a : Answer) {r : Refusal} → Outcome.Refused r ≡ asOutcome a → a ≡ refused r
+pub outcome-refused : (a : Answer) {r : Refusal} → Outcome.Refused r ≡ asOutcome a → a ≡ refused r
 unfolding asOutcome
 outcome-refused (refused q) {r} e = let z : q ≡ r = cc in rw z
 outcome-refused (written text) e = let z : _≡_ {A = ℕ} 0 1 = cc in absurd (omega arith)
 
-outcome-written : (a : Answer) {n : ℕ} → Outcome.Written n ≡ asOutcome a → (text : List ℕ) × (a ≡ written text) × (n ≡ length text)
+pub outcome-written : (a : Answer) {n : ℕ} → Outcome.Written n ≡ asOutcome a → (text : List ℕ) × (a ≡ written text) × (n ≡ length text)
 unfolding asOutcome
 outcome-written (refused q) e = let z : _≡_ {A = ℕ} 0 1 = cc in absurd (omega arith)
 outcome-written (written text) e = (text, refl, cc)

@@ -1,19 +1,18 @@
--- The sweep between two answers. Assumes nothing.
+-- For specs/Theorem.antt: the sweep between two answers of the call. Assumes nothing.
 use mathlib.Core.Path.{_≡_, sym, _∙_}
 use mathlib.Core.Option.{none, some}
 use Rattle.entity.specs.declared.forms.Level.{Level}
 use Rattle.entity.specs.declared.forms.FoundLevel.the-variants as Found
 use Rattle.rules.specs.Sheet.{Sheet, sheetOf}
-use Rattle.rules.specs.Sweep.{sweep}
 use Rattle.rules.specs.Answer.{firstRefusal, checks, cleaned}
-use Rattle.run.specs.Swept.{optimised}
+use Rattle.run.specs.Swept.{foldedPlaces, editsBefore, editsAfter}
 use Rattle.run.proofs.Call.{safe-call, exact-call}
 use Rattle.accepted.proofs.Giving.{passed}
 use Rattle.drifthurdle.specs.Theorem.{SafeAndExact, SweepIsSafeAndExact}
 use Rattle.drifthurdle.proofs.Refusing.{wrote}
 
--- between the walk of an accepted sheet and what the sweep makes of it
-safe-and-exact : (sh : Sheet) (level : Level) → firstRefusal (checks sh) ≡ none → SafeAndExact sh (optimised sh level) (sweep sh (optimised sh level))
+-- between the edits of an accepted sheet before the sweep and after it
+safe-and-exact : (sh : Sheet) (level : Level) → firstRefusal (checks sh) ≡ none → SafeAndExact sh (foldedPlaces sh level) (editsBefore sh level) (editsAfter sh level)
 safe-and-exact sh level e =
     let p = passed sh e in
     record { safe = safe-call sh level (p .limits) (p .names); exact = exact-call sh level (p .limits) (p .names) }

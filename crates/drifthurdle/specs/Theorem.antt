@@ -2,26 +2,24 @@
 use mathlib.Core.Path.{_≡_}
 use mathlib.Core.List.{List}
 use mathlib.Core.Option.{some}
-use Prim.Native.Nat.{ℕ, _<_}
-use lib.ListN.{length}
+use Prim.Native.Nat.{ℕ}
 use Rattle.entity.specs.Forms.{levelOf}
+use Rattle.entity.specs.declared.forms.Place.{Place}
+use Rattle.entity.specs.declared.forms.Edit.{Edit}
 use Rattle.entity.specs.declared.forms.Level.{Level}
 use Rattle.entity.specs.declared.forms.FoundLevel.the-variants as Found
 use Rattle.rules.specs.Rows.{rowsOf}
 use Rattle.rules.specs.Sheet.{Sheet, sheetOf}
-use Rattle.rules.specs.Forward.{Walk}
-use Rattle.rules.specs.Function.{IsWalk, along}
-use Rattle.rules.specs.Model.{State, Machine, steps, Agree}
-use Rattle.rules.specs.Sweep.{sweep}
+use Rattle.rules.specs.Function.{funcOf}
 use Rattle.rules.specs.Answer.{written, output, answer}
-use Rattle.run.specs.Swept.{StandsOnce, optimised, walked}
-use Rattle.run.specs.Theorem.{ExactRow}
+use Rattle.run.specs.Swept.{optimised, final, foldedPlaces, editsBefore, editsAfter}
+use Rattle.run.specs.Theorem.{RunsAgree, ExactEdits}
 
--- Between walk v of a sheet and walk w, what the sweep makes of it: on every machine and along every walk over the blocks, the two agree at each step;
--- and every edit row stands at one position, where it was removed exactly when nothing brings its content on, and otherwise stayed.
-pub record SafeAndExact (sh : Sheet) (v w : Walk) : Type 0 where
-  pub safe : (M : Machine) (bs : List ℕ) → IsWalk (walked sh v) bs → (st : State) → Agree (steps M (along (walked sh v) bs) st) (steps M (along (walked sh w) bs) st)
-  pub exact : (j : ℕ) → j < length (sh .edits) → (b : ℕ) × (i : ℕ) × StandsOnce sh b i j × ExactRow sh (v .places) (v .edits) (w .edits) b i j
+-- Between the edits of a sheet before the sweep and after it, with these operand places: on every machine and along every walk over the blocks, the
+-- two agree at each step; and every edit row stands at one position, where it was removed exactly when nothing brings its content on, and otherwise stayed.
+pub record SafeAndExact (sh : Sheet) (places : List Place) (before after : List Edit) : Type 0 where
+  pub safe : RunsAgree (funcOf sh places before) (funcOf sh places after)
+  pub exact : ExactEdits sh places before after
 
 -- The two texts are those of a walk of the sheet's rows, and of that walk swept.
 pub record TextsSwept (sheet : List ℕ) (level : ℕ) (plain swept : List ℕ) : Type 0 where
@@ -30,8 +28,8 @@ pub record TextsSwept (sheet : List ℕ) (level : ℕ) (plain swept : List ℕ) 
   pub rows-are : rowsOf sheet ≡ some rows
   pub level-is : levelOf level ≡ Found.At named
   pub before : plain ≡ output (sheetOf rows) (optimised (sheetOf rows) named)
-  pub after : swept ≡ output (sheetOf rows) (sweep (sheetOf rows) (optimised (sheetOf rows) named))
-  pub holds : SafeAndExact (sheetOf rows) (optimised (sheetOf rows) named) (sweep (sheetOf rows) (optimised (sheetOf rows) named))
+  pub after : swept ≡ output (sheetOf rows) (final (sheetOf rows) named)
+  pub holds : SafeAndExact (sheetOf rows) (foldedPlaces (sheetOf rows) named) (editsBefore (sheetOf rows) named) (editsAfter (sheetOf rows) named)
 
 -- for every sheet, level and buffers for which the call without the sweep and the call with it write an answer
 abbrev pub SweepIsSafeAndExact : Type 0

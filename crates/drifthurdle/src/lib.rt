@@ -13,6 +13,7 @@ ghost use Rattle.rules.specs.Sheet.{sheetOf};
 ghost use Rattle.rules.specs.Accept.{withinLimits};
 ghost use Rattle.rules.specs.Forward.{Walk};
 ghost use Rattle.rules.specs.Answer.{firstRefusal, checks, output, cleaned, fitted, answer, returned, buffer};
+ghost use Rattle.table.specs.Layout.{tableLength, editWidth};
 ghost use Rattle.table.specs.Rows.{countIn};
 ghost use Rattle.table.specs.Table.{Indexed};
 ghost use Rattle.table.specs.Sheet.{sheetIn};
@@ -34,10 +35,12 @@ use entity::forms::FoundLevel;
 use entity::forms::Level;
 use entity::forms::Refusal;
 use entity::numbers::EditRow;
+use entity::numbers::OperandRow;
 use move_optimizer::levels::optimise;
 use names::limits::within_limits;
 use names::names::names_hold;
 use sheet::read;
+use table::edits::WIDTH;
 use table::edits::sheet_edit;
 use table::edits::store_edit;
 use table::index::build;
@@ -78,7 +81,7 @@ fn check_ready(t: &[u32]) -> Checked
 
 // 2 to 6 in the table's order; the index is built once the limits hold.
 fn check(t: &mut [u32]) -> Checked
-    ensures { λ c. ⌜ ((rs : List (List ℕ)) → Indexed rs (now (t .entry)) → sheetOk rs ≡ true → 56536 ≤ length (now (t .entry))
+    ensures { λ c. ⌜ ((rs : List (List ℕ)) → Indexed rs (now (t .entry)) → sheetOk rs ≡ true → tableLength ≤ length (now (t .entry))
         → (c ≡ asChecked (firstRefusal (checks (sheetOf rs)))) × (firstRefusal (checks (sheetOf rs)) ≡ none → TableOf rs (now (t .exit)))) ⌝ }
 {
     if !within_limits(t) {
@@ -90,7 +93,7 @@ fn check(t: &mut [u32]) -> Checked
 
 // 1 to 6: the sheet into the table.
 fn read_and_check(sheet: &[u8], t: &mut [u32]) -> Checked
-    ensures { λ c. ⌜ (56536 ≤ length (now (t .entry)) → (c ≡ asChecked (sheetRefusal (now (sheet .entry))))
+    ensures { λ c. ⌜ (tableLength ≤ length (now (t .entry)) → (c ≡ asChecked (sheetRefusal (now (sheet .entry))))
         × ((rs : List (List ℕ)) → rowsOf (now (sheet .entry)) ≡ some rs → firstRefusal (checks (sheetOf rs)) ≡ none → TableOf rs (now (t .exit)))) ⌝ }
 {
     if !read(sheet, t) {
@@ -101,7 +104,7 @@ fn read_and_check(sheet: &[u8], t: &mut [u32]) -> Checked
 
 // The sheet's edits, each in its cells.
 fn load_edits(t: &[u32], edits: &mut [u32])
-    ensures { λ _. ⌜ (((j : ℕ) → j < countIn (now (t .entry)) 12 → Storable (editAtRow (now (t .entry)) j)) → countIn (now (t .entry)) 12 * 4 ≤ length (now (edits .entry))
+    ensures { λ _. ⌜ (((j : ℕ) → j < countIn (now (t .entry)) 12 → Storable (editAtRow (now (t .entry)) j)) → countIn (now (t .entry)) 12 * editWidth ≤ length (now (edits .entry))
         → EditsLoaded (now (t .entry)) (now (edits .exit)) (countIn (now (t .entry)) 12)) ⌝ }
 {
     let rows = count(t, Kind::EDIT);
@@ -142,8 +145,8 @@ fn cleaned(t: &[u32], level: Level, swept: bool, out: &mut [u8]) -> Outcome
     ensures { λ o. ⌜ (Ready (now (t .entry)) → firstRefusal (checks (sheetIn (now (t .entry)))) ≡ none
         → Gives (fitted (cleaned (sheetIn (now (t .entry))) level swept) (length (now (out .entry)))) o (now (out .entry)) (now (out .exit))) ⌝ }
 {
-    let mut edits = [0u32; 4096];
-    let mut places = [0u32; 2048];
+    let mut edits = [0u32; EditRow::LIMIT as usize * WIDTH];
+    let mut places = [0u32; OperandRow::LIMIT as usize];
     let mut counts = [0u32; COUNTS];
     load_edits(t, &mut edits);
     load_places(t, &mut places);

@@ -37,3 +37,7 @@ editLimit = 1024
 
 abbrev pub reuseLimit : ℕ
 reuseLimit = 128
+
+-- 1: "sheet over 65,536 bytes"
+abbrev pub byteLimit : ℕ
+byteLimit = 65536

@@ -1,6 +1,6 @@
 // A tuple struct for each entity, so that a number of one kind is no number of another, with document 01's limit of each.
 ghost use mathlib.Core.Path.{_≡_};
-ghost use Rattle.entity.specs.Limits.{slotLimit, regLimit, unitLimit, classLimit, groupLimit, valueLimit, valueGroupLimit, blockLimit, instLimit, operandLimit, editLimit, reuseLimit};
+ghost use Rattle.entity.specs.Limits.{slotLimit, regLimit, unitLimit, classLimit, groupLimit, valueLimit, valueGroupLimit, blockLimit, instLimit, operandLimit, editLimit, reuseLimit, byteLimit};
 
 pub struct SpillSlot(pub u32);
 
@@ -20,11 +20,15 @@ pub struct Block(pub u32);
 
 pub struct Inst(pub u32);
 
+pub struct ParamRow(pub u32);
+
 pub struct OperandRow(pub u32);
 
 pub struct EditRow(pub u32);
 // The place of an operand within its instruction.
 pub struct OperandIndex(pub u32);
+// The place of a byte within a sheet.
+pub struct SheetByte(pub u32);
 
 impl SpillSlot {
     pub const LIMIT: u32 = 64;
@@ -75,6 +79,10 @@ impl OperandIndex {
     pub const LIMIT: u32 = 128;
 }
 
+impl SheetByte {
+    pub const LIMIT: u32 = 65536;
+}
+
 // The limits of the code are the limits of the definitions.
 pub fn limits_agree()
     ensures { λ _. do ⌜ (← ⟦SpillSlot::LIMIT⟧ .entry) ≡ slotLimit ⌝ }
@@ -89,4 +97,5 @@ pub fn limits_agree()
     ensures { λ _. do ⌜ (← ⟦OperandRow::LIMIT⟧ .entry) ≡ operandLimit ⌝ }
     ensures { λ _. do ⌜ (← ⟦EditRow::LIMIT⟧ .entry) ≡ editLimit ⌝ }
     ensures { λ _. do ⌜ (← ⟦OperandIndex::LIMIT⟧ .entry) ≡ reuseLimit ⌝ }
+    ensures { λ _. do ⌜ (← ⟦SheetByte::LIMIT⟧ .entry) ≡ byteLimit ⌝ }
 {}

@@ -1,4 +1,4 @@
--- A row's fold is what the rule says, and what it makes of the walk. Assumes nothing.
+-- `fold_to` and `fold` of src/lib.rt: a row's fold is what the rule `foldTo` says, and what it makes of the walk. Assumes nothing.
 use mathlib.Core.Path.{_≡_, refl, sym, ap, _∙_}
 use mathlib.Core.Bool.{Bool, true, false, not, _&&_, and-false}
 use mathlib.Core.List.{List}
@@ -6,16 +6,16 @@ use mathlib.Core.Option.{Option, none, some, Option·elim}
 use Prim.Native.Nat.{ℕ, zero, suc, _+_, _-_, _<_}
 use native.Mathlib.Omega.{arith}
 use lib.ListN.{length, getD, set, length-set, List·getD-eq-default}
-use lib.Seq.{getD-set-same, getD-set-other, set-out, ext-getD}
+use lib.Seq.{getD-set-same, getD-set-other, ext-getD}
 use borrow.Author.Tests.{ltb-true, lt-ltb, ne-eqb}
 use Rattle.laws.specs.First.{first}
 use Rattle.laws.specs.Lists.{isIn}
-use Rattle.laws.proofs.Cases.{by-bool, by-lt, by-eq}
+use Rattle.laws.proofs.Cases.{by-bool, by-lt, by-eq, some-ne-none}
+use Rattle.laws.proofs.First.{first-found}
 use Rattle.entity.specs.Limits.{classLimit}
 use Rattle.entity.specs.declared.numbers.PhysReg.{PhysReg}
 use Rattle.entity.specs.declared.numbers.RegClass.{RegClass}
 use Rattle.entity.specs.declared.numbers.OperandIndex.{OperandIndex}
-use Rattle.entity.specs.declared.record.Record.{Record}
 use Rattle.entity.specs.declared.sets.FoundReg.{FoundReg}
 use Rattle.entity.specs.declared.sets.FoundReg.the-variants as FoundReg
 use Rattle.entity.specs.declared.forms.Place.{Place}
@@ -23,25 +23,26 @@ use Rattle.entity.specs.declared.forms.Place.the-variants.{Reg}
 use Rattle.entity.specs.declared.forms.Constraint.{Constraint}
 use Rattle.entity.specs.declared.forms.Constraint.the-variants.{Class, Fixed, Reuse}
 use Rattle.entity.specs.declared.forms.OperandKind.the-variants.{NonAllocatable}
-use Rattle.rules.specs.Sheet.{Sheet, OpRow, regCount, classRow, isMemory, placeOf, kindWord, is, subjectOf}
+use Rattle.rules.specs.Cells.{numberLimit, regMark, slotMark}
+use Rattle.rules.specs.Sheet.{Sheet, OpRow, regCount, classRow, isMemory, placeOf, isUse, subjectOf}
 use Rattle.rules.specs.Accept.{instExists, subjectExists, constraintExists, placeExists}
 use Rattle.rules.specs.Answer.{placeCell}
-use Rattle.rules.specs.Record.{holds}
+use Rattle.rules.specs.Record.{Record, holds}
 use Rattle.rules.specs.Forward.{Walk, inMemory, lowestHolding, reused, foldTo, fold, count}
+use Rattle.rules.proofs.Refusals.{in-limits, all-named, each-named}
 use Rattle.table.specs.Sheet.{sheetIn}
 use Rattle.table.specs.Index.{Ready}
 use Rattle.table.specs.View.{opRow}
 use Rattle.table.specs.Edits.{placeIn, placesIn, SmallPlace}
 use Rattle.table.specs.Written.{PlaceCell}
 use Rattle.table.proofs.Loops.{and-left, and-right, never, all-at}
-use Rattle.table.proofs.Lookups.{all-named, ops-named}
 use Rattle.table.proofs.Stored.{places-length, places-at}
+use Rattle.table.proofs.Counted.{count-more}
 use Rattle.record.specs.Flat.{recordIn}
 use Rattle.holders.specs.Holders.{allows, regFound}
 use Rattle.moves.specs.Walks.{Walked}
+use Rattle.moves.proofs.Walks.{walked-fewer}
 use Rattle.folding.specs.Folds.{mayFold}
-use Rattle.holders.proofs.Holding.{few-regs, few-classes}
-use Rattle.moves.proofs.Moving.{walked-less}
 
 -- ---- the register that a row is folded to
 
@@ -55,7 +56,7 @@ chosen sh c v s = elim c [ Class c ↦ lowestHolding sh (λ r. isIn r (classRow 
 
 module _ (sh : Sheet) (o : OpRow) (k : ℕ) (s : Record) where
   abbrev goes : Bool
-  goes = is "use" (o .kind) && inMemory sh (o .place) && not (reused sh (o .at) k)
+  goes = isUse (o .kind) && inMemory sh (o .place) && not (reused sh (o .at) k)
 
   stays : goes ≡ false → foldTo sh o k s ≡ none
   unfolding foldTo
@@ -66,7 +67,7 @@ module _ (sh : Sheet) (o : OpRow) (k : ℕ) (s : Record) where
   moves e = rw (e, foldTo)
 
   pub tied-stays : reused sh (o .at) k ≡ true → foldTo sh o k s ≡ none
-  tied-stays e = stays (rw e (and-false (is "use" (o .kind) && inMemory sh (o .place))))
+  tied-stays e = stays (rw e (and-false (isUse (o .kind) && inMemory sh (o .place))))
 
   pub other-stays : mayFold sh o ≡ false → foldTo sh o k s ≡ none
   unfolding mayFold
@@ -112,51 +113,42 @@ class-small {t} g n {c} e =
     by-lt n (length (sh .ops))
     (λ h.
     let o : OpRow = opRow sh n in
-    let p = all-at (λ (o : OpRow). instExists sh (o .at) && subjectExists sh (o .kind) && constraintExists sh (o .constraint) && placeExists sh (o .place)) none-row (sh .ops) (ops-named sh (all-named sh (g .names))) n h in
+    let p = all-at (λ (o : OpRow). instExists sh (o .at) && subjectExists sh (o .kind) && constraintExists sh (o .constraint) && placeExists sh (o .place)) none-row (sh .ops) (each-named sh (all-named sh (g .names)) .ops) n h in
     let q =
     and-right (instExists sh (o .at) && subjectExists sh (o .kind)) (constraintExists sh (o .constraint))
     (and-left (instExists sh (o .at) && subjectExists sh (o .kind) && constraintExists sh (o .constraint)) (placeExists sh (o .place)) p) in
-    omega (arith, ltb-true (c .0) (length (sh .classes)) (rw e at q), few-classes sh (g .limits)))
+    omega (arith, ltb-true (c .0) (length (sh .classes)) (rw e at q), in-limits sh (g .limits) .few-classes))
     (λ h. let z : Class (record { 0 = 0 }) ≡ Class c = rw (List·getD-eq-default (sh .ops) none-row h) at e in let y : record { 0 = 0 } ≡ c = cc in omega (arith, ap (λ (x : RegClass). x .0) y))
 
 -- ---- what is found
 
-first-below : (f : ℕ → Bool) (i n r : ℕ) → first some none f i n ≡ some r → r < i + n
-unfolding first
-first-below f i zero r e = let z : _≡_ {A = ℕ} 0 1 = cc in absurd (omega arith)
-first-below f i (suc n) r e =
-    by-bool (f i) (λ q. let z : some i ≡ some r = rw q at e in let y : i ≡ r = cc in omega arith) (λ q. omega (arith, first-below f (suc i) n r (rw q at e)))
-
 chosen-small : (sh : Sheet) (c : Constraint) (v : ℕ) (s : Record) (r : ℕ) → chosen sh c v s ≡ some r → r < regCount sh
 unfolding lowestHolding
-chosen-small sh (Class c) v s r e = omega (arith, first-below (λ r. isIn r (classRow sh (c .0) .members) && not (isMemory sh r) && holds s r v) 0 (regCount sh) r e)
+chosen-small sh (Class c) v s r e = omega (arith, first-found (λ r. isIn r (classRow sh (c .0) .members) && not (isMemory sh r) && holds s r v) 0 (regCount sh) r e .below)
 chosen-small sh (Fixed x) v s r e = let z : _≡_ {A = ℕ} 0 1 = cc in absurd (omega arith)
 chosen-small sh (Reuse x) v s r e = let z : _≡_ {A = ℕ} 0 1 = cc in absurd (omega arith)
-
-some-none : {C : Type 0} {r : ℕ} {x : Option ℕ} → x ≡ some r → x ≡ none → C
-some-none e q = let z : _≡_ {A = ℕ} 0 1 = cc in absurd (omega arith)
 
 module _ (sh : Sheet) (o : OpRow) (k : ℕ) (s : Record) (r : ℕ) (e : foldTo sh o k s ≡ some r) where
   fold-small : r < regCount sh
   fold-small =
-      by-bool (goes sh o k s) (λ q. chosen-small sh (o .constraint) (subjectOf (o .kind)) s r (sym (moves sh o k s q) ∙ e)) (λ q. some-none e (stays sh o k s q))
+      by-bool (goes sh o k s) (λ q. chosen-small sh (o .constraint) (subjectOf (o .kind)) s r (sym (moves sh o k s q) ∙ e)) (λ q. some-ne-none e (stays sh o k s q))
 
-  fold-use : is "use" (o .kind) ≡ true
-  fold-use = by-bool (is "use" (o .kind)) (λ q. q) (λ q. some-none e (stays sh o k s (rw q)))
+  fold-use : isUse (o .kind) ≡ true
+  fold-use = by-bool (isUse (o .kind)) (λ q. q) (λ q. some-ne-none e (stays sh o k s (rw q)))
 
 -- a row past the end is no use
-use-within : (sh : Sheet) (n : ℕ) → is "use" (opRow sh n .kind) ≡ true → n < length (sh .ops)
-unfolding is kindWord
+use-within : (sh : Sheet) (n : ℕ) → isUse (opRow sh n .kind) ≡ true → n < length (sh .ops)
+unfolding isUse
 use-within sh n e = by-lt n (length (sh .ops)) (λ h. h) (λ h. never (rw (List·getD-eq-default (sh .ops) none-row h) at e))
 
 -- ---- what becomes of the places and the counts
 
-reg-back : (r : PhysReg) → r .0 < 100000 → placeOf (200000 + r .0) ≡ Reg r
+reg-back : (r : PhysReg) → r .0 < numberLimit → placeOf (regMark + r .0) ≡ Reg r
 unfolding placeOf
 reg-back r h =
-    let e : 200000 + r .0 - 200000 ≡ r .0 = omega arith in
-    let l : 200000 + r .0 < 300000 = omega arith in
-    rw (lt-ltb (200000 + r .0) 300000 l, e)
+    let e : regMark + r .0 - regMark ≡ r .0 = omega arith in
+    let l : regMark + r .0 < slotMark = omega arith in
+    rw (lt-ltb (regMark + r .0) slotMark l, e)
 
 place-set : (places : List ℕ) (m n c : ℕ) (p : Place) → n < length places → placeOf c ≡ p → placesIn (set places n c) m ≡ set (placesIn places m) n p
 unfolding placeIn
@@ -175,15 +167,6 @@ place-set places m n c p h e =
 
 cell-set : (places : List ℕ) (n c j : ℕ) → PlaceCell c → PlaceCell (getD places j 0) → n < length places → PlaceCell (getD (set places n c) j 0)
 cell-set places n c j a b h = by-eq j n (λ q. rw (q, getD-set-same places n c 0 h) a) (λ q. rw (getD-set-other places n j c 0 q) b)
-
-count-few : (cs : List ℕ) (k j m : ℕ) → getD cs j 0 + (m + 1) < 4294967296 → getD (count k cs) j 0 + m < 4294967296
-unfolding count
-count-few cs k j m h =
-    by-lt k (length cs)
-    (λ l.
-    by-eq j k (λ q. rw (q, getD-set-same cs k (getD cs k 0 + 1) 0 l) (let z = rw q at h in omega arith))
-    (λ q. rw (getD-set-other cs k j (getD cs k 0 + 1) 0 q) (omega arith)))
-    (λ l. rw (set-out cs k (getD cs k 0 + 1) l) (omega arith))
 
 -- ---- and of the walk
 
@@ -206,7 +189,7 @@ module _ {t rec edits places counts : List ℕ} {m : ℕ} (k n : ℕ) {w : Walk}
   pub not-folded : f ≡ FoundReg.Nothing → Walked t rec edits places counts m (fold (sheetIn t) w (k, n, opRow (sheetIn t) n))
   not-folded q =
       let o : OpRow = opRow (sheetIn t) n in
-      rw (fold-stays (sheetIn t) w k n o (ap (foldTo (sheetIn t) o k) (x .is-rec) ∙ not-found e q)) (walked-less _ _ (omega arith) x)
+      rw (fold-stays (sheetIn t) w k n o (ap (foldTo (sheetIn t) o k) (x .is-rec) ∙ not-found e q)) (walked-fewer _ (omega arith) x)
 
   pub folded : {r : PhysReg} {p : Place} {c : ℕ} {places′ counts′ : List ℕ} → Ready t → f ≡ FoundReg.At r → p ≡ Reg r → (SmallPlace p → c ≡ placeCell p) → places′ ≡ set places n c
       → (getD counts 6 0 < 4294967295 → counts′ ≡ count 6 counts) → Walked t rec edits places′ counts′ m (fold (sheetIn t) w (k, n, opRow (sheetIn t) n))
@@ -217,10 +200,10 @@ module _ {t rec edits places counts : List ℕ} {m : ℕ} (k n : ℕ) {w : Walk}
       let d = x .cells in
       let some-r : foldTo sh o k (recordIn rec) ≡ some (r .0) = found-is e q in
       let here : foldTo sh o k (w .rec) ≡ some (r .0) = ap (foldTo sh o k) (x .is-rec) ∙ some-r in
-      let small : r .0 < 100000 = omega (arith, fold-small sh o k (recordIn rec) (r .0) some-r, few-regs sh (g .limits)) in
+      let small : r .0 < numberLimit = omega (arith, fold-small sh o k (recordIn rec) (r .0) some-r, in-limits sh (g .limits) .few-regs) in
       let in-ops : n < length (sh .ops) = use-within sh n (fold-use sh o k (recordIn rec) (r .0) some-r) in
       let in-places : n < length places = omega (arith, d .place-room) in
-      let cell-is : c ≡ 200000 + r .0 = (rw pr at cell) small in
+      let cell-is : c ≡ regMark + r .0 = (rw pr at cell) small in
       let back : placeOf c ≡ Reg r = ap placeOf cell-is ∙ reg-back r small in
       let counted : counts′ ≡ count 6 counts = up (omega (arith, d .few 6)) in
       let long′ : length places′ ≡ length places = ap length store ∙ length-set places n c in
@@ -230,12 +213,15 @@ module _ {t rec edits places counts : List ℕ} {m : ℕ} (k n : ℕ) {w : Walk}
         is-rec = x .is-rec;
         cells = record {
           edit-room = d .edit-room;
-          edit-cells = d .edit-cells;
-          is-edits = d .is-edits;
           place-room = omega (arith, d .place-room);
-          place-cells = λ j h. rw store (cell-set places n c j (omega arith, omega arith) (d .place-cells j h) in-places);
-          is-places = ap (λ (l : List Place). set l n (Reg r)) (d .is-places) ∙ sym (ap (λ (l : List ℕ). placesIn l (length (sh .ops))) store ∙ place-set places (length (sh .ops)) n c (Reg r) in-places back);
-          few = λ j. rw counted (count-few counts 6 j m (d .few j));
+          in-cells = record {
+            edit-cells = d .in-cells .edit-cells;
+            is-edits = d .in-cells .is-edits;
+            place-cells = λ j h. rw store (cell-set places n c j (omega arith, omega arith) (d .in-cells .place-cells j h) in-places);
+            is-places =
+                ap (λ (l : List Place). set l n (Reg r)) (d .in-cells .is-places) ∙ sym (ap (λ (l : List ℕ). placesIn l (length (sh .ops))) store ∙ place-set places (length (sh .ops)) n c (Reg r) in-places back);
+          };
+          few = λ j. rw counted (omega (arith, d .few j, count-more 6 j counts));
           is-counts = ap (count 6) (d .is-counts) ∙ sym counted;
         };
       }

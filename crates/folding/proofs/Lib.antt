@@ -1,4 +1,4 @@
 pub mod Rows
 pub mod Telling
 pub mod Folding
-pub mod Composing
+pub mod Instructions

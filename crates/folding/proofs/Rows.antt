@@ -1,51 +1,35 @@
--- An instruction's operands, as the definitions list them, are the rows of the range that the index gives. Assumes nothing.
+-- An instruction's operands, as the rule `indexed` lists them, are the rows of the range that the index gives: for `fold_all` of src/lib.rt.
+-- Assumes nothing.
 use mathlib.Core.Path.{_≡_, refl, sym, ap, ap₂, _∙_}
-use mathlib.Core.Bool.{Bool, true, false, and-false}
+use mathlib.Core.Bool.{Bool, true}
 use mathlib.Core.List.{List, [], _∷_, map, map-map, map-id, zip, zipWith}
 use Prim.Native.Nat.{ℕ, zero, suc, _+_, _-_, _≤_, _<_}
 use native.Mathlib.Nat.{zero-add, add-zero}
 use native.Mathlib.Omega.{arith}
-use lib.Dec.{eqb, leb}
+use lib.Dec.{eqb}
 use lib.ListN.{length, getD, length-map}
-use borrow.Author.Tests.{eqb-true, leb-true}
-use Rattle.laws.specs.Lists.{all, keep, from}
+use borrow.Author.Tests.{eqb-true}
+use Rattle.laws.specs.Lists.{keep, from}
 use Rattle.laws.proofs.Cases.{by-bool}
+use Rattle.laws.proofs.Lists.{zipped, from-long}
 use Rattle.entity.specs.Limits.{operandLimit, instLimit}
 use Rattle.entity.specs.declared.forms.Place.the-variants.{Reg}
 use Rattle.entity.specs.declared.forms.Constraint.the-variants.{Class}
 use Rattle.entity.specs.declared.forms.OperandKind.the-variants.{NonAllocatable}
 use Rattle.rules.specs.Sheet.{Sheet, OpRow}
-use Rattle.rules.specs.Accept.{withinLimits, reuseWithin, operandsAt}
+use Rattle.rules.specs.Accept.{operandsAt}
 use Rattle.rules.specs.Forward.{indexed}
+use Rattle.rules.proofs.Refusals.{in-limits}
+use Rattle.table.specs.Layout.{opIndex}
 use Rattle.table.specs.Sheet.{sheetIn}
 use Rattle.table.specs.Index.{Ready, rangeIn}
 use Rattle.table.specs.View.{opRow}
 use Rattle.table.specs.declared.index.Range.{Range}
 use Rattle.table.proofs.Beginnings.{from-at}
-use Rattle.table.proofs.Loops.{never, keep-map}
-use Rattle.table.proofs.Sheets.{from-long}
+use Rattle.table.proofs.Loops.{keep-map}
 use Rattle.table.proofs.Numbered.{ops-at}
 
--- ---- what 2 says of numbers of rows
-
-module _ (sh : Sheet) (e : withinLimits sh ≡ true) where
-  pub few-ops : length (sh .ops) ≤ operandLimit
-  unfolding withinLimits
-  few-ops = by-bool (leb (length (sh .ops)) operandLimit) (λ p. leb-true _ _ p) (λ p. let z : false ≡ true = simp (p, and-false) at e in never z)
-
-  pub small-reuses : all (λ o. reuseWithin (o .constraint)) (sh .ops) ≡ true
-  unfolding withinLimits
-  small-reuses = by-bool (all (λ o. reuseWithin (o .constraint)) (sh .ops)) (λ p. p) (λ p. let z : false ≡ true = simp (p, and-false) at e in never z)
-
 -- ---- lists with their numbers
-
-zipped : {A : Type 0} (g : ℕ → ℕ × A) (d : A) (a : ℕ) (l : List A) → ((j : ℕ) → j < length l → g (a + j) ≡ (a + j, getD l j d)) → zip (from a (length l)) l ≡ map g (from a (length l))
-unfolding from zip zipWith
-zipped g d a [] h = refl
-zipped g d a (x ∷ l) h =
-    let z : a + 0 ≡ a = add-zero a in
-    ap₂ (λ (y : _) (r : _). y ∷ r) (sym (rw z at (h 0 (omega arith))))
-    (zipped g d (suc a) l (λ j u. let s : suc a + j ≡ a + suc j = omega arith in rw s (h (suc j) (omega arith))))
 
 keep-second : {A : Type 0} (p : A → Bool) (a : ℕ) (l : List A) → keep p l ≡ map (λ (jo : ℕ × A). jo .1) (keep (λ (jo : ℕ × A). p (jo .1)) (zip (from a (length l)) l))
 unfolding keep from zip zipWith
@@ -85,7 +69,7 @@ module _ {t : List ℕ} (g : Ready t) (i : ℕ) where
   sh = sheetIn t
 
   abbrev rows : Range
-  rows = rangeIn t 54952 instLimit i
+  rows = rangeIn t opIndex instLimit i
 
   abbrev lo : ℕ
   lo = rows .from
@@ -137,4 +121,4 @@ module _ {t : List ℕ} (g : Ready t) (i : ℕ) where
   pub few-rows : rows .to - rows .from ≤ operandLimit
   few-rows =
       let k = ap length numbers ∙ from-long lo many in
-      omega (arith, k, keep-short (λ n. eqb (opRow sh n .at) i) (from 0 (length (sh .ops))), from-long 0 (length (sh .ops)), few-ops sh (g .limits))
+      omega (arith, k, keep-short (λ n. eqb (opRow sh n .at) i) (from 0 (length (sh .ops))), from-long 0 (length (sh .ops)), in-limits sh (g .limits) .few-ops)

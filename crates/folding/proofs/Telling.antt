@@ -1,4 +1,4 @@
--- What is told of an instruction's operands, row by row. Assumes nothing.
+-- `tell`, `told_with` and `with_reuse` of src/lib.rt: what is told of an instruction's operands, row by row. Assumes nothing.
 use mathlib.Core.Path.{_≡_, sym, ap, _∙_}
 use mathlib.Core.Bool.{Bool, true, false, _||_, or-false, or-assoc}
 use mathlib.Core.List.{List, [], _∷_, _++_, map, map-append}
@@ -14,11 +14,11 @@ use Rattle.bits.proofs.Members.{has-setOf, setOf-same}
 use Rattle.entity.specs.declared.numbers.OperandIndex.{OperandIndex}
 use Rattle.entity.specs.declared.forms.Constraint.{Constraint}
 use Rattle.entity.specs.declared.forms.Constraint.the-variants.{Reuse}
-use Rattle.rules.specs.Sheet.{Sheet, OpRow}
+use Rattle.rules.specs.Sheet.{Sheet, OpRow, isEarly}
 use Rattle.table.specs.View.{opRow}
 use Rattle.table.specs.declared.index.Range.{Range}
 use Rattle.folding.specs.declared.Told.{Told}
-use Rattle.folding.specs.Folds.{reuses, early, mayFold, told, opsIn}
+use Rattle.folding.specs.Folds.{reuses, mayFold, told, opsIn}
 
 -- ---- one row
 
@@ -45,7 +45,7 @@ or-second h q e = rw h (e ∙ q)
 
 -- what is told with one more
 pub told-more : (sh : Sheet) {past : Told} (o : OpRow) (os : List OpRow) {r : NumberSet} {e f : Bool} → past ≡ told sh os
-    → ((p : ℕ → Bool) → past .reused ≡ setOf p → r ≡ setOf (λ k. p k || reuses k (o .constraint))) → e ≡ (past .early || early (o .kind)) → f ≡ (past .folds || mayFold sh o)
+    → ((p : ℕ → Bool) → past .reused ≡ setOf p → r ≡ setOf (λ k. p k || reuses k (o .constraint))) → e ≡ (past .early || isEarly (o .kind)) → f ≡ (past .folds || mayFold sh o)
     → record { reused = r; early = e; folds = f } ≡ told sh (os ++ (o ∷ []))
 unfolding told
 told-more sh o os {r} {e} {f} q a b c =
@@ -53,7 +53,7 @@ told-more sh o os {r} {e} {f} q a b c =
     a (λ k. any (λ o. reuses k (o .constraint)) os) (ap (λ (x : Told). x .reused) q)
     ∙ setOf-same (λ k. any (λ o. reuses k (o .constraint)) os || reuses k (o .constraint)) (λ k. any (λ o. reuses k (o .constraint)) (os ++ (o ∷ [])))
     (λ k l. sym (any-more (λ o. reuses k (o .constraint)) os o)) in
-    let y : e ≡ any (λ o. early (o .kind)) (os ++ (o ∷ [])) = b ∙ ap (λ (x : Told). x .early || early (o .kind)) q ∙ sym (any-more (λ o. early (o .kind)) os o) in
+    let y : e ≡ any (λ o. isEarly (o .kind)) (os ++ (o ∷ [])) = b ∙ ap (λ (x : Told). x .early || isEarly (o .kind)) q ∙ sym (any-more (λ o. isEarly (o .kind)) os o) in
     let z : f ≡ any (mayFold sh) (os ++ (o ∷ [])) = c ∙ ap (λ (x : Told). x .folds || mayFold sh o) q ∙ sym (any-more (mayFold sh) os o) in
     rw (x, y, z)
 

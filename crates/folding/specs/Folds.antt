@@ -1,5 +1,5 @@
 -- What is told of an instruction's operands in one pass, and the rows that are passed.
-use mathlib.Core.Bool.{Bool, false, _&&_, _||_}
+use mathlib.Core.Bool.{Bool, false, _&&_}
 use mathlib.Core.List.{List, map}
 use Prim.Native.Nat.{ℕ, _-_}
 use lib.Dec.{eqb}
@@ -7,8 +7,7 @@ use Rattle.laws.specs.Lists.{any, from}
 use Rattle.bits.specs.Sets.{setOf}
 use Rattle.entity.specs.declared.forms.Constraint.{Constraint}
 use Rattle.entity.specs.declared.forms.Constraint.the-variants.{Class, Fixed, Reuse}
-use Rattle.entity.specs.declared.forms.OperandKind.{OperandKind}
-use Rattle.rules.specs.Sheet.{Sheet, OpRow, is}
+use Rattle.rules.specs.Sheet.{Sheet, OpRow, isUse, isEarly}
 use Rattle.rules.specs.Forward.{inMemory}
 use Rattle.table.specs.View.{opRow}
 use Rattle.table.specs.declared.index.Range.{Range}
@@ -18,18 +17,15 @@ use Rattle.folding.specs.declared.Told.{Told}
 abbrev pub reuses : ℕ → Constraint → Bool
 reuses k c = elim c [ Class n ↦ false | Fixed r ↦ false | Reuse n ↦ eqb (n .0) k ]
 
-unfoldable pub early : OperandKind → Bool
-early k = is "early" k || is "earlyg" k
-
 -- "a `use` in memory"
 unfoldable pub mayFold : Sheet → OpRow → Bool
-mayFold sh o = is "use" (o .kind) && inMemory sh (o .place)
+mayFold sh o = isUse (o .kind) && inMemory sh (o .place)
 
 unfoldable pub told : Sheet → List OpRow → Told
 told sh os =
     record {
       reused = setOf (λ k. any (λ o. reuses k (o .constraint)) os);
-      early = any (λ o. early (o .kind)) os;
+      early = any (λ o. isEarly (o .kind)) os;
       folds = any (mayFold sh) os;
     }
 

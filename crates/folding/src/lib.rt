@@ -6,17 +6,18 @@ ghost use Prim.Native.Nat.{ℕ, _+_};
 ghost use Rattle.laws.specs.Fold.{run};
 ghost use Rattle.laws.specs.Lists.{any};
 ghost use Rattle.bits.specs.Sets.{setOf};
-ghost use Rattle.entity.specs.Limits.{instLimit};
-ghost use Rattle.rules.specs.Sheet.{OpRow, subjectOf};
+ghost use Rattle.entity.specs.Limits.{instLimit, operandLimit};
+ghost use Rattle.rules.specs.Sheet.{OpRow, isEarly, subjectOf};
 ghost use Rattle.rules.specs.Accept.{operandsAt};
 ghost use Rattle.rules.specs.Forward.{Walk, earlyDefs, defineAll, reused, foldTo, indexed, fold, optimiseInst, prepareInst};
+ghost use Rattle.table.specs.Layout.{opIndex};
 ghost use Rattle.table.specs.Sheet.{sheetIn};
 ghost use Rattle.table.specs.Index.{Ready, rangeIn};
 ghost use Rattle.table.specs.View.{opRow};
 ghost use Rattle.record.specs.Flat.{recordIn, Long, Becomes};
 ghost use Rattle.holders.specs.Holders.{Filled, regFound};
 ghost use Rattle.moves.specs.Walks.{Walked};
-ghost use Rattle.folding.specs.Folds.{reuses, early, mayFold, told, opsIn};
+ghost use Rattle.folding.specs.Folds.{reuses, mayFold, told, opsIn};
 use bits::numbers::less;
 use bits::sets::NumberSet;
 use bits::tables::store_u32;
@@ -62,7 +63,7 @@ fn with_reuse(s: NumberSet, c: Constraint) -> NumberSet
 }
 
 fn is_early(k: OperandKind) -> bool
-    ensures { λ x. ⌜ x ≡ early k ⌝ }
+    ensures { λ x. ⌜ x ≡ isEarly k ⌝ }
 {
     match k {
         OperandKind::EarlyDef(_) => true,
@@ -200,9 +201,9 @@ fn fold_all(
     rows: Range,
 )
     ensures { λ _. ⌜ (Ready (now (t .entry)) → Filled (sheetIn (now (t .entry))) (now (classes .entry)) → (i : ℕ)
-        → rows ≡ rangeIn (now (t .entry)) 54952 instLimit i → x ≡ told (sheetIn (now (t .entry))) (opsIn (sheetIn (now (t .entry))) rows)
+        → rows ≡ rangeIn (now (t .entry)) opIndex instLimit i → x ≡ told (sheetIn (now (t .entry))) (opsIn (sheetIn (now (t .entry))) rows)
         → (edits : List ℕ) (m : ℕ) (w : Walk)
-        → Walked (now (t .entry)) (now (rec .entry)) edits (now (places .entry)) (now (counts .entry)) (m + 2048) w
+        → Walked (now (t .entry)) (now (rec .entry)) edits (now (places .entry)) (now (counts .entry)) (m + operandLimit) w
         → Walked (now (t .entry)) (now (rec .entry)) edits (now (places .exit)) (now (counts .exit)) m (run (fold (sheetIn (now (t .entry)))) w (indexed (sheetIn (now (t .entry))) i))) ⌝ }
 {
     if !x.folds {
@@ -221,7 +222,7 @@ fn fold_all(
 
 // The early definitions, if there are any.
 fn define_early(t: &[u32], rec: &mut [u32; LENGTH], b: Block, some: bool, i: Inst)
-    ensures { λ _. ⌜ (Ready (now (t .entry)) → some ≡ any (λ (o : OpRow). early (o .kind)) (operandsAt (sheetIn (now (t .entry))) (i .0)) → Long (now (rec .entry))
+    ensures { λ _. ⌜ (Ready (now (t .entry)) → some ≡ any (λ (o : OpRow). isEarly (o .kind)) (operandsAt (sheetIn (now (t .entry))) (i .0)) → Long (now (rec .entry))
         → Becomes (now (rec .entry)) (now (rec .exit)) (defineAll (sheetIn (now (t .entry))) (b .0) (flatMap (earlyDefs (sheetIn (now (t .entry)))) (operandsAt (sheetIn (now (t .entry))) (i .0))) (recordIn (now (rec .entry))))) ⌝ }
 {
     if some {
@@ -240,7 +241,7 @@ pub fn optimise_inst(
     i: Inst,
 )
     ensures { λ _. ⌜ (Ready (now (t .entry)) → Filled (sheetIn (now (t .entry))) (now (classes .entry)) → (edits : List ℕ) (n : ℕ) (w : Walk)
-        → Walked (now (t .entry)) (now (rec .entry)) edits (now (places .entry)) (now (counts .entry)) (n + 2048) w
+        → Walked (now (t .entry)) (now (rec .entry)) edits (now (places .entry)) (now (counts .entry)) (n + operandLimit) w
         → Walked (now (t .entry)) (now (rec .exit)) edits (now (places .exit)) (now (counts .exit)) n (optimiseInst (sheetIn (now (t .entry))) (b .0) w (i .0))) ⌝ }
 {
     let rows = op_rows(t, i);

@@ -12,6 +12,7 @@ use borrow.Author.Tests.{lt-ltb, le-ltb}
 use Rattle.laws.proofs.Cases.{by-lt}
 use Rattle.entity.specs.Limits.{blockLimit}
 use Rattle.rules.specs.Sheet.{succsOf, predsOf}
+use Rattle.table.specs.Layout.{kindIndex, predIndex, rowLimit, rowStarts, succIndex}
 use Rattle.table.specs.Rows.{firstIn, countIn, kindRow}
 use Rattle.table.specs.Table.{Indexed}
 use Rattle.table.specs.Sheet.{sheetIn}
@@ -54,31 +55,31 @@ module _ {rs : List (List ℕ)} {t : List ℕ} (i : Indexed rs t) (k : ℕ) (sma
       let n = r .from in
       let w = within h in
       let f = firstIn t k in
-      let next : getD t (54616 + k + 1) 0 ≡ getD t (54616 + (k + 1)) 0 = ap (λ (j : ℕ). getD t j 0) (add-assoc 54616 k 1) in
-      let end : getD t (54616 + (k + 1)) 0 ≤ length rs = begin-within i (k + 1) (omega arith) in
-      let few : length rs ≤ 21845 = i .held .few-rows in
+      let next : getD t (kindIndex + k + 1) 0 ≡ getD t (kindIndex + (k + 1)) 0 = ap (λ (j : ℕ). getD t j 0) (add-assoc kindIndex k 1) in
+      let end : getD t (kindIndex + (k + 1)) 0 ≤ length rs = begin-within i (k + 1) (omega arith) in
+      let few : length rs ≤ rowLimit = i .held .few-rows in
       let fm : f % 65536 ≡ f = mod-eq-of-lt (omega arith) in
       let nm : n % 65536 ≡ n = mod-eq-of-lt (omega arith) in
       let low : startIn t f ≤ startIn t (f + n) = start-later (i .held) f n (omega arith) in
-      let e1 : f + n + 1 + (getD t (54616 + (k + 1)) 0 - (f + n + 1)) ≡ getD t (54616 + (k + 1)) 0 = omega arith in
-      let high : startIn t (f + n + 1) ≤ startIn t (getD t (54616 + (k + 1)) 0) = rw e1 at (start-later (i .held) (f + n + 1) (getD t (54616 + (k + 1)) 0 - (f + n + 1)) (omega arith)) in
+      let e1 : f + n + 1 + (getD t (kindIndex + (k + 1)) 0 - (f + n + 1)) ≡ getD t (kindIndex + (k + 1)) 0 = omega arith in
+      let high : startIn t (f + n + 1) ≤ startIn t (getD t (kindIndex + (k + 1)) 0) = rw e1 at (start-later (i .held) (f + n + 1) (getD t (kindIndex + (k + 1)) 0 - (f + n + 1)) (omega arith)) in
       let sm : startIn t (f + n) % 65536 ≡ startIn t (f + n) = mod-eq-of-lt (omega (arith, start-within (i .held) (f + n) (omega arith))) in
-      let e2 : 32768 + (f + n) + 1 ≡ 32768 + (f + n + 1) = omega arith in
+      let e2 : rowStarts + (f + n) + 1 ≡ rowStarts + (f + n + 1) = omega arith in
       rw (lt-ltb n (r .to) h, lt-ltb n (countIn t k) w, fm, nm, sm, e2)
       (part-of-stretch t (baseIn t k) (startIn t (f + n)) (startIn t (f + n + 1)) (baseIn t (k + 1)) low high))
       (λ h. rw (le-ltb (r .from) (r .to) h))
 
 -- NEIGHBOURS
 abbrev pub listsIn : List ℕ → Direction → ℕ → Range
-listsIn t d b = chosen d (listIn t 7 (rangeIn t 54712 blockLimit b)) (listIn t 8 (rangeIn t 54792 blockLimit b))
+listsIn t d b = chosen d (listIn t 7 (rangeIn t succIndex blockLimit b)) (listIn t 8 (rangeIn t predIndex blockLimit b))
 
 module _ {t : List ℕ} (g : Ready t) (b : ℕ) where
   neighbours-are : (d : Direction) → partIn (listsIn t d b) (chosen d (stretchIn t 7 8) (stretchIn t 8 9)) ≡ chosen d (succsOf (sheetIn t) b) (predsOf (sheetIn t) b)
   unfolding chosen
   neighbours-are Successors =
-      list-in (g .held) 7 (omega arith) (rangeIn t 54712 blockLimit b) (range-within t 54712 7 blockLimit (g .built .succs) (succs-below g) b) ∙ succs-of g b
+      list-in (g .held) 7 (omega arith) (rangeIn t succIndex blockLimit b) (range-within t succIndex 7 blockLimit (g .built .succs) (succs-below g) b) ∙ succs-of g b
   neighbours-are Predecessors =
-      list-in (g .held) 8 (omega arith) (rangeIn t 54792 blockLimit b) (range-within t 54792 8 blockLimit (g .built .preds) (preds-below g) b) ∙ preds-of g b
+      list-in (g .held) 8 (omega arith) (rangeIn t predIndex blockLimit b) (range-within t predIndex 8 blockLimit (g .built .preds) (preds-below g) b) ∙ preds-of g b
 
 -- by what the code hands on
 pub neighbours-by : (t l s p : List ℕ) (r : Range) (d : Direction) (b : ℕ) → s ≡ stretchIn t 7 8 → p ≡ stretchIn t 8 9 → r ≡ listsIn t d b → l ≡ partIn r (chosen d s p) → Ready t
@@ -93,7 +94,7 @@ pub preds-by : (t l : List ℕ) (b : ℕ) → (Ready t → l ≡ chosen Predeces
 unfolding chosen
 preds-by t l b f = f
 
-pub start-by : (t : List ℕ) (i s : ℕ) → s ≡ getD t (32768 + i) 0 → s ≡ startIn t i
+pub start-by : (t : List ℕ) (i s : ℕ) → s ≡ getD t (rowStarts + i) 0 → s ≡ startIn t i
 unfolding startIn
 start-by t i s e = e
 
@@ -116,11 +117,11 @@ unfolding stretchIn
 stretch-by t k next a b l p q e = e ∙ ap (λ (b : ℕ). take (b - a) (drop a t)) q ∙ ap (λ (a : ℕ). take (baseIn t next - a) (drop a t)) p
 
 module _ (t : List ℕ) (d : Direction) (b : ℕ) (r x : Range) where
-  pub ranged-succs : d ≡ Successors → r ≡ rangeIn t 54712 blockLimit b → x ≡ listIn t 7 r → x ≡ listsIn t d b
+  pub ranged-succs : d ≡ Successors → r ≡ rangeIn t succIndex blockLimit b → x ≡ listIn t 7 r → x ≡ listsIn t d b
   unfolding chosen
   ranged-succs e p q = rw e (q ∙ ap (listIn t 7) p)
 
-  pub ranged-preds : d ≡ Predecessors → r ≡ rangeIn t 54792 blockLimit b → x ≡ listIn t 8 r → x ≡ listsIn t d b
+  pub ranged-preds : d ≡ Predecessors → r ≡ rangeIn t predIndex blockLimit b → x ≡ listIn t 8 r → x ≡ listsIn t d b
   unfolding chosen
   ranged-preds e p q = rw e (q ∙ ap (listIn t 8) p)
 

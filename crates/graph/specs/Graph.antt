@@ -4,6 +4,7 @@ use mathlib.Core.List.{List}
 use Prim.Native.Nat.{ℕ, _+_, _-_, _%_}
 use lib.Dec.{ltb}
 use lib.ListN.{getD, take, drop}
+use Rattle.table.specs.Layout.{rowStarts}
 use Rattle.table.specs.Rows.{firstIn}
 use Rattle.table.specs.declared.index.Range.{Range}
 use Rattle.graph.specs.declared.Direction.{Direction}
@@ -20,7 +21,7 @@ partIn r l = take (r .to - r .from) (drop (r .from) l)
 
 -- where row i starts, and where the rows of kind k do
 unfoldable pub startIn : List ℕ → ℕ → ℕ
-startIn t i = getD t (32768 + i) 0
+startIn t i = getD t (rowStarts + i) 0
 
 unfoldable pub baseIn : List ℕ → ℕ → ℕ
 baseIn t k = startIn t (firstIn t k)

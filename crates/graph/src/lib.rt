@@ -3,6 +3,7 @@ ghost use mathlib.Core.Path.{_≡_};
 ghost use Rattle.entity.specs.Limits.{blockLimit};
 ghost use Rattle.rules.specs.Sheet.{succsOf, predsOf};
 ghost use Rattle.rules.specs.Forward.{dominates};
+ghost use Rattle.table.specs.Layout.{predIndex, succIndex};
 ghost use Rattle.table.specs.Sheet.{sheetIn};
 ghost use Rattle.table.specs.Index.{rangeIn, Ready};
 ghost use Rattle.graph.specs.Graph.{chosen, partIn, startIn, baseIn, stretchIn, listIn};
@@ -25,7 +26,7 @@ pub enum Direction {
 }
 
 // A part of the successor list or of the predecessor list.
-pub fn neighbours<'a>(d: Direction, succs: &'a [u32], preds: &'a [u32], at: Range) -> &'a [u32]
+fn neighbours<'a>(d: Direction, succs: &'a [u32], preds: &'a [u32], at: Range) -> &'a [u32]
     ensures { λ x. ⌜ now x ≡ partIn at (chosen d (now (succs .entry)) (now (preds .entry))) ⌝ }
 {
     let from = at.from as usize;
@@ -74,7 +75,7 @@ fn list_at(t: &[u32], k: Kind, rows: Range) -> Range
 
 // Where a block's neighbours stand in their list.
 fn neighbours_at(t: &[u32], d: Direction, b: Block) -> Range
-    ensures { λ r. ⌜ r ≡ chosen d (listIn (now (t .entry)) 7 (rangeIn (now (t .entry)) 54712 blockLimit (b .0))) (listIn (now (t .entry)) 8 (rangeIn (now (t .entry)) 54792 blockLimit (b .0))) ⌝ }
+    ensures { λ r. ⌜ r ≡ chosen d (listIn (now (t .entry)) 7 (rangeIn (now (t .entry)) succIndex blockLimit (b .0))) (listIn (now (t .entry)) 8 (rangeIn (now (t .entry)) predIndex blockLimit (b .0))) ⌝ }
 {
     match d {
         Direction::Successors => list_at(t, Kind::SUCC, succ_rows(t, b)),

@@ -1,4 +1,5 @@
--- Sets of registers gathered by a loop, the sets of the classes in their words, and the lowest register of a meet. Assumes nothing.
+-- The functions of src/lib.rt: sets of registers gathered by a loop, the sets of the classes in their words (specs/Holders.antt), and the lowest
+-- register of a meet (the rule `lowestHolding`). Assumes nothing.
 use mathlib.Core.Path.{_≡_, refl, sym, ap, _∙_}
 use mathlib.Core.Bool.{Bool, true, false, cond, not, _&&_, _||_, and-false, and-comm, or-false, or-assoc}
 use mathlib.Core.List.{List, [], _∷_}
@@ -9,7 +10,7 @@ use native.Mathlib.Omega.{arith}
 use lib.Dec.{eqb, leb, ltb}
 use lib.ListN.{length, getD, take, set, length-set, List·getD-eq-default}
 use lib.Seq.{take-all, getD-set-same, getD-set-other}
-use borrow.Author.Tests.{leb-true, le-leb, lt-leb, lt-ltb, le-ltb, eq-eqb, ne-eqb}
+use borrow.Author.Tests.{le-leb, lt-leb, lt-ltb, le-ltb, eq-eqb, ne-eqb}
 use Rattle.laws.specs.First.{first}
 use Rattle.laws.specs.Lists.{any, isIn}
 use Rattle.laws.specs.Digits.{hasIn}
@@ -27,26 +28,17 @@ use Rattle.entity.specs.declared.numbers.SpillSlot.{SpillSlot}
 use Rattle.entity.specs.declared.sets.FoundReg.{FoundReg}
 use Rattle.entity.specs.declared.sets.FoundReg.the-variants as FoundReg
 use Rattle.rules.specs.Sheet.{Sheet, regCount, classRow, isMemory}
-use Rattle.rules.specs.Accept.{withinLimits}
 use Rattle.rules.specs.Record.{holds}
 use Rattle.rules.specs.Forward.{inMemory, lowestHolding}
+use Rattle.rules.proofs.Refusals.{in-limits}
 use Rattle.table.specs.Rows.{countIn}
 use Rattle.table.specs.Sheet.{sheetIn}
 use Rattle.table.specs.Index.{Ready}
-use Rattle.table.proofs.Loops.{never}
 use Rattle.table.proofs.Sheets.{long-of, regs-are, classes-are}
 use Rattle.record.specs.Flat.{recordIn, Long}
 use Rattle.holders.specs.Holders.{allows, setAt, Puts, Filled, Blank, regFound}
 
 -- ---- what 2 tells
-
-pub few-regs : (sh : Sheet) → withinLimits sh ≡ true → regCount sh ≤ regLimit
-unfolding withinLimits
-few-regs sh e = by-bool (leb (regCount sh) regLimit) (λ p. leb-true _ _ p) (λ p. let z : false ≡ true = simp (p, and-false) at e in never z)
-
-pub few-classes : (sh : Sheet) → withinLimits sh ≡ true → length (sh .classes) ≤ classLimit
-unfolding withinLimits
-few-classes sh e = by-bool (leb (length (sh .classes)) classLimit) (λ p. leb-true _ _ p) (λ p. let z : false ≡ true = simp (p, and-false) at e in never z)
 
 -- ---- a turn of a loop that adds r where a test says so
 
@@ -198,7 +190,7 @@ blank-has b d r h =
     (ap (λ (ws : List ℕ). hasIn ws r) (empty-is 4) ∙ has-wordsOf 4 (λ k. false) r h)
 
 small : (t : List ℕ) → Ready t → (r : ℕ) → r < regCount (sheetIn t) → r < setLimit
-small t g r h = omega (arith, few-regs (sheetIn t) (g .limits))
+small t g r h = omega (arith, in-limits (sheetIn t) (g .limits) .few-regs)
 
 module _ (t : List ℕ) (g : Ready t) {a b : List ℕ} {s : NumberSet} where
   pub fill-all : Blank a → s ≡ setOf (λ r. ltb r (regCount (sheetIn t)) && not (isMemory (sheetIn t) r)) → (68 ≤ length a → classLimit ≤ classLimit → Puts a b classLimit s)
@@ -221,7 +213,7 @@ module _ (t : List ℕ) (g : Ready t) {a b : List ℕ} {s : NumberSet} where
   unfolding allows
   fill-next m n {l} c h f q e p =
       let sh = sheetIn t in
-      let few : m < classLimit = omega (arith, few-classes sh (g .limits), long-of (classes-are t)) in
+      let few : m < classLimit = omega (arith, in-limits sh (g .limits) .few-classes, long-of (classes-are t)) in
       let y = p (f .long) (omega arith) in
       record {
         long = omega (arith, y .long, f .long);
@@ -271,10 +263,10 @@ in-class : (t classes : List ℕ) (c : ℕ) {x : NumberSet} → x ≡ cond (leb 
     → has x r ≡ (allows (sheetIn t) c r && not (isMemory (sheetIn t) r))
 in-class t classes c e g f r h =
     let sh = sheetIn t in
-    let u : r < setLimit = omega (arith, few-regs sh (g .limits)) in
+    let u : r < setLimit = omega (arith, in-limits sh (g .limits) .few-regs) in
     by-lt classLimit c
     (λ l.
-    rw (e, lt-leb c classLimit l, has-setOf (λ k. false) r u, absent sh c r (omega (arith, few-classes sh (g .limits))) (λ q. omega arith)))
+    rw (e, lt-leb c classLimit l, has-setOf (λ k. false) r u, absent sh c r (omega (arith, in-limits sh (g .limits) .few-classes)) (λ q. omega arith)))
     (λ l. rw (e, le-leb c classLimit l) (f .are c r l h))
 
 pub lowest-is : (t rec classes : List ℕ) (c v : ℕ) {s x m : NumberSet} {f : FoundReg} → (Long rec → s ≡ setOf (λ r. ltb r (regCount (sheetIn t)) && holds (recordIn rec) r v))
@@ -284,7 +276,7 @@ pub lowest-is : (t rec classes : List ℕ) (c v : ℕ) {s x m : NumberSet} {f : 
 unfolding regFound lowestHolding
 lowest-is t rec classes c v {s} {x} {m} p e q z g l f =
     let sh = sheetIn t in
-    let n : regCount sh ≤ regLimit = few-regs sh (g .limits) in
+    let n : regCount sh ≤ regLimit = in-limits sh (g .limits) .few-regs in
     let both : (k : ℕ) → k < setLimit → has m k ≡ ((ltb k (regCount sh) && holds (recordIn rec) k v) && has x k) =
     λ k u. rw (q, has-setOf (λ k. has s k && has x k) k u, p l, has-setOf (λ r. ltb r (regCount sh) && holds (recordIn rec) r v) k u)
     in

@@ -1,4 +1,4 @@
--- The binary digits of a number as a membership test, and the laws of the code's operations on words. Assumes nothing.
+-- Laws of `bit` and `word` (specs/Digits.antt): a number's binary digits as a membership test, and what the code's operations on words do to them. Assumes nothing.
 use mathlib.Core.Path.{_≡_, refl, sym, ap, ap₂, _∙_}
 use mathlib.Core.Bool.{Bool, true, false, not, _&&_, _||_, and-true, and-false, or-false}
 use Prim.Native.Nat.{ℕ, zero, suc, _+_, _-_, _*_, _/_, _%_, _^_, _≤_, _<_, zero-le}
@@ -9,7 +9,7 @@ use lib.Dec.{lit<, eqb, eqb·suc-suc, eqb·suc-zero, eqb·zero-suc}
 use lib.Bits.{bitAnd, bitOr, bitXor, and-shr, or-shr, and-mod, or-mod, and-mask, and-lt, or-lt, and-le-l, or-disjoint}
 use lib.Pow.{pow-pos, pow-lt, shr-shr}
 use lib.Count.{trailingZeros, under}
-use borrow.Author.Tests.{eqb-true, eqb-false, eq-eqb, ne-eqb}
+use borrow.Author.Tests.{eq-eqb, ne-eqb}
 use Rattle.laws.specs.Digits.{bit, digitOf, word}
 use Rattle.laws.proofs.Cases.{by-eq}
 
@@ -55,13 +55,6 @@ bit-zero (suc k) = bit-suc 0 k ∙ bit-zero k
 pub bit-first : (n : ℕ) → bit n 0 ≡ eqb (n % 2) 1
 unfolding bit
 bit-first n = ap (λ (x : ℕ). eqb (x % 2) 1) (div-one n)
-
--- the digit itself, where a test has shown whether it is set
-pub bit-odd : (n : ℕ) → bit n 0 ≡ true → n % 2 ≡ 1
-bit-odd n e = eqb-true (n % 2) 1 (sym (bit-first n) ∙ e)
-
-pub bit-even : (n : ℕ) → bit n 0 ≡ false → n % 2 ≡ 0
-bit-even n e = two (λ (x : ℕ). eqb x 1 ≡ false → x ≡ 0) (λ e. refl) (λ e. absurd (eqb-false 1 1 e refl)) (n % 2) (omega arith) (sym (bit-first n) ∙ e)
 
 -- `1 << j`
 pub bit-pow : (j k : ℕ) → bit (2 ^ j) k ≡ eqb k j

@@ -1,4 +1,4 @@
--- A set as the digits of a list of 64-bit words: the laws that any such set needs, over the list alone. How many words is n: no law names a size.
+-- Laws of `hasIn` and `wordsOf` (specs/Digits.antt): a set as the digits of a list of 64-bit words, over the list alone. How many words is n: no law names a size.
 -- Assumes nothing.
 use mathlib.Core.Path.{_≡_, refl, sym, ap, _∙_}
 use mathlib.Core.Bool.{Bool, true, false, not, _&&_, _||_, or-false, and-true}

@@ -3,3 +3,4 @@ pub mod Digits
 pub mod First
 pub mod Fold
 pub mod Lists
+pub mod Spans

@@ -1,2 +1,4 @@
-pub mod Levelling
-pub mod Handing
+pub mod BlockWalks
+pub mod LevelWalks
+pub mod Visits
+pub mod Tables

@@ -5,19 +5,20 @@ ghost use mathlib.Core.Option.{Option·getD};
 ghost use Prim.Native.Nat.{ℕ, _+_, _<_};
 ghost use lib.ListN.{length};
 ghost use Rattle.rules.specs.Sheet.{blockCount};
-ghost use Rattle.rules.specs.Record.{fresh};
-ghost use Rattle.rules.specs.Forward.{Walk, Handed, nothing, optimiseBlock, visit, visits, mostVisits, globalStart, optimise};
+ghost use Rattle.rules.specs.Record.{nothing, fresh};
+ghost use Rattle.rules.specs.Forward.{Walk, Handed, optimiseBlock, visit, visits, mostVisits, globalStart, optimise};
 ghost use Rattle.table.specs.Sheet.{sheetIn};
 ghost use Rattle.table.specs.Index.{Ready};
 ghost use Rattle.table.specs.Edits.{editsIn};
 ghost use Rattle.record.specs.Flat.{recordIn, Long, Becomes};
 ghost use Rattle.states.specs.States.{Roomy, stateIn, Unset};
 ghost use Rattle.holders.specs.Holders.{Filled};
-ghost use Rattle.moves.specs.Walks.{Ordered, Written, Walked, entered, optimised, prepared};
+ghost use Rattle.moves.specs.Walks.{Ordered, Written, Walked, entered, optimised, prepared, allMost, blockMost, visitMost, walkMost};
 ghost use Rattle.move_optimizer.specs.Levels.{Stands, Rests};
 use entity::forms::Level;
 use entity::numbers::Block;
 use entity::numbers::Inst;
+use entity::numbers::ParamRow;
 use entity::sets::BlockSet;
 use entity::sets::FoundBlock;
 use folding::optimise_inst;
@@ -53,7 +54,7 @@ fn enter(t: &[u32], rec: &mut [u32; LENGTH], b: Block)
     let to = rows.to;
     let mut n = rows.from;
     while n < to {
-        let p = param_at(t, n);
+        let p = param_at(t, ParamRow(n));
         let place = p.place;
         define(t, rec, b, p.value, place);
         n += 1;
@@ -71,7 +72,7 @@ fn optimise_block(
     b: Block,
 )
     ensures { λ _. ⌜ (Ordered (now (t .entry)) → Filled (sheetIn (now (t .entry))) (now (classes .entry)) → (n : ℕ) (w : Walk)
-        → Walked (now (t .entry)) (now (rec .entry)) (now (edits .entry)) (now (places .entry)) (now (counts .entry)) (n + 1572864) w
+        → Walked (now (t .entry)) (now (rec .entry)) (now (edits .entry)) (now (places .entry)) (now (counts .entry)) (n + blockMost) w
         → Walked (now (t .entry)) (now (rec .exit)) (now (edits .exit)) (now (places .exit)) (now (counts .exit)) n (optimised (sheetIn (now (t .entry))) (b .0) w)) ⌝ }
 {
     enter(t, rec, b);
@@ -97,7 +98,7 @@ fn optimise_handed(
     b: Block,
 )
     ensures { λ _. ⌜ (Ordered (now (t .entry)) → Filled (sheetIn (now (t .entry))) (now (classes .entry)) → Roomy (now (states .entry)) → (n : ℕ) (w : Walk)
-        → Walked (now (t .entry)) (now (rec .entry)) (now (edits .entry)) (now (places .entry)) (now (counts .entry)) (n + 1572864) w
+        → Walked (now (t .entry)) (now (rec .entry)) (now (edits .entry)) (now (places .entry)) (now (counts .entry)) (n + blockMost) w
         → Walked (now (t .entry)) (now (rec .exit)) (now (edits .exit)) (now (places .exit)) (now (counts .exit)) n (optimiseBlock (sheetIn (now (t .entry))) (b .0) (Option·getD (stateIn (now (states .entry)) (b .0)) nothing) w)) ⌝ }
 {
     take_in(t, rec, states, b);
@@ -130,7 +131,7 @@ fn local(
     counts: &mut [u32],
 )
     ensures { λ _. ⌜ (Ordered (now (t .entry)) → Filled (sheetIn (now (t .entry))) (now (classes .entry)) → (n : ℕ) (w : Walk)
-        → Walked (now (t .entry)) (now (rec .entry)) (now (edits .entry)) (now (places .entry)) (now (counts .entry)) (n + 100663296) w
+        → Walked (now (t .entry)) (now (rec .entry)) (now (edits .entry)) (now (places .entry)) (now (counts .entry)) (n + allMost) w
         → Walked (now (t .entry)) (now (rec .exit)) (now (edits .exit)) (now (places .exit)) (now (counts .exit)) n (optimise (sheetIn (now (t .entry))) Level.Local w)) ⌝ }
 {
     let n = count(t, Kind::BLOCK);
@@ -153,7 +154,7 @@ fn forward(
     counts: &mut [u32],
 )
     ensures { λ _. ⌜ (Ordered (now (t .entry)) → Filled (sheetIn (now (t .entry))) (now (classes .entry)) → Unset (now (states .entry)) → (n : ℕ) (w : Walk)
-        → Walked (now (t .entry)) (now (rec .entry)) (now (edits .entry)) (now (places .entry)) (now (counts .entry)) (n + 100663296) w
+        → Walked (now (t .entry)) (now (rec .entry)) (now (edits .entry)) (now (places .entry)) (now (counts .entry)) (n + allMost) w
         → Walked (now (t .entry)) (now (rec .exit)) (now (edits .exit)) (now (places .exit)) (now (counts .exit)) n (optimise (sheetIn (now (t .entry))) Level.Forward w)) ⌝ }
 {
     forward_start(t, states);
@@ -201,7 +202,7 @@ fn visits(
     counts: &mut [u32],
 )
     ensures { λ _. ⌜ (Ordered (now (t .entry)) → Unset (now (states .entry)) → (places : List ℕ) (n : ℕ) (w : Walk)
-        → Walked (now (t .entry)) (now (rec .entry)) (now (edits .entry)) places (now (counts .entry)) (n + 12416) w
+        → Walked (now (t .entry)) (now (rec .entry)) (now (edits .entry)) places (now (counts .entry)) (n + visitMost) w
         → Rests (now (t .entry)) (now (rec .exit)) (now (states .exit)) (now (edits .entry)) places (now (counts .exit)) n (visits (sheetIn (now (t .entry))) (mostVisits (sheetIn (now (t .entry)))) (w, globalStart (sheetIn (now (t .entry)))))) ⌝ }
 {
     let mut w = global_start(t, states);
@@ -227,7 +228,7 @@ fn global(
     counts: &mut [u32],
 )
     ensures { λ _. ⌜ (Ordered (now (t .entry)) → Filled (sheetIn (now (t .entry))) (now (classes .entry)) → Unset (now (states .entry)) → (n : ℕ) (w : Walk)
-        → Walked (now (t .entry)) (now (rec .entry)) (now (edits .entry)) (now (places .entry)) (now (counts .entry)) (n + 100675712) w
+        → Walked (now (t .entry)) (now (rec .entry)) (now (edits .entry)) (now (places .entry)) (now (counts .entry)) (n + allMost + visitMost) w
         → Walked (now (t .entry)) (now (rec .exit)) (now (edits .exit)) (now (places .exit)) (now (counts .exit)) n (optimise (sheetIn (now (t .entry))) Level.Global w)) ⌝ }
 {
     visits(t, rec, states, edits, counts);
@@ -241,7 +242,7 @@ fn global(
 
 // The edits, places and counts after the forward rules.
 pub fn optimise(t: &[u32], level: Level, edits: &mut [u32], places: &mut [u32], counts: &mut [u32])
-    ensures { λ _. ⌜ (Ordered (now (t .entry)) → (n : ℕ) (w : Walk) → w .rec ≡ fresh → Written (now (t .entry)) (now (edits .entry)) (now (places .entry)) (now (counts .entry)) (n + 200000000) w
+    ensures { λ _. ⌜ (Ordered (now (t .entry)) → (n : ℕ) (w : Walk) → w .rec ≡ fresh → Written (now (t .entry)) (now (edits .entry)) (now (places .entry)) (now (counts .entry)) (n + walkMost) w
         → Written (now (t .entry)) (now (edits .exit)) (now (places .exit)) (now (counts .exit)) n (optimise (sheetIn (now (t .entry))) level w)) ⌝ }
 {
     let mut classes = [0u64; WORDS];

@@ -1,4 +1,4 @@
--- What the parts of a decision tell is what its rule says. Assumes nothing.
+-- What `decide` of src/lib.rt and its parts tell is what the rules of an edit in rules/specs/Forward.antt say. Assumes nothing.
 --     already-reg, already-slot               the place already holds v
 --     home-reg, home-slot                     the place is v's home slot
 --     never-spilled, spilled-home, spilled-away     v's last spilled block
@@ -7,17 +7,16 @@
 --     fate-already, fate-spilled, fate-sourced, fate-kept   what becomes of a move or remat
 --     fate-small                              a register that is found is small
 use mathlib.Core.Path.{_≡_, refl, sym, _∙_}
-use mathlib.Core.Bool.{Bool, true, false, not, _&&_, _||_, and-false}
+use mathlib.Core.Bool.{Bool, true, false, not, _&&_, _||_}
 use mathlib.Core.List.{List}
 use mathlib.Core.Option.{Option, none, some, Option·elim}
-use Prim.Native.Nat.{ℕ, zero, suc, _+_, _<_, _≤_}
+use Prim.Native.Nat.{ℕ, _<_}
 use native.Mathlib.Omega.{arith}
-use lib.Dec.{eqb, leb}
-use borrow.Author.Tests.{ne-eqb, leb-true}
-use Rattle.laws.specs.First.{first}
+use lib.Dec.{eqb}
+use borrow.Author.Tests.{ne-eqb}
 use Rattle.laws.proofs.Cases.{by-bool}
-use Rattle.entity.specs.Limits.{regLimit, classLimit}
-use Rattle.entity.specs.declared.record.Record.{Record}
+use Rattle.laws.proofs.First.{first-found}
+use Rattle.entity.specs.Limits.{classLimit}
 use Rattle.entity.specs.declared.numbers.PhysReg.{PhysReg}
 use Rattle.entity.specs.declared.numbers.SpillSlot.{SpillSlot}
 use Rattle.entity.specs.declared.forms.Place.{Place}
@@ -26,10 +25,10 @@ use Rattle.entity.specs.declared.sets.FoundReg.{FoundReg}
 use Rattle.entity.specs.declared.sets.FoundReg.the-variants as FoundReg
 use Rattle.rules.specs.Sheet.{Sheet, regCount, isMemory}
 use Rattle.rules.specs.Accept.{withinLimits}
-use Rattle.rules.specs.Record.{absent, holds, isHome}
+use Rattle.rules.specs.Record.{Record, absent, holds, isHome}
 use Rattle.rules.specs.Forward.{redundantReload, redundantMove, redundantRemat, redundantSpill, dominates, inMemory, lowestHolding, already, toHome, spilledAbove, removal, newSource}
+use Rattle.rules.proofs.Refusals.{in-limits}
 use Rattle.table.specs.declared.counts.Count.{Count}
-use Rattle.table.proofs.Loops.{never}
 use Rattle.record.specs.Flat.{recordIn, storedIn, spilledIn, Long}
 use Rattle.record.proofs.Sections.{stored-is, spilled-is}
 use Rattle.holders.specs.Holders.{allows, regFound}
@@ -144,21 +143,9 @@ module _ (sh : Sheet) (b : ℕ) (a : Arrival) (s : Record) {x : Bool} (p : x ≡
 
 -- ---- a register that is found is small
 
-first-below : (f : ℕ → Bool) (i n r : ℕ) → first some none f i n ≡ some r → r < i + n
-unfolding first
-first-below f i zero r e = let z : _≡_ {A = ℕ} 0 1 = cc in absurd (omega arith)
-first-below f i (suc n) r e =
-    by-bool (f i)
-    (λ p. let q : some i ≡ some r = rw p at e in let z : i ≡ r = cc in omega arith)
-    (λ p. omega (arith, first-below f (suc i) n r (rw p at e)))
-
-few-regs : (sh : Sheet) → withinLimits sh ≡ true → regCount sh ≤ regLimit
-unfolding withinLimits
-few-regs sh e = by-bool (leb (regCount sh) regLimit) (λ p. leb-true _ _ p) (λ p. let z : false ≡ true = simp (p, and-false) at e in never z)
-
 lowest-below : (sh : Sheet) (f : ℕ → Bool) (v r : ℕ) (s : Record) → lowestHolding sh f v s ≡ some r → r < regCount sh
 unfolding lowestHolding
-lowest-below sh f v r s e = omega (arith, first-below (λ k. f k && not (isMemory sh k) && holds s k v) 0 (regCount sh) r e)
+lowest-below sh f v r s e = omega (arith, first-found (λ k. f k && not (isMemory sh k) && holds s k v) 0 (regCount sh) r e .below)
 
 source-below : (sh : Sheet) (p : Option Place) (v r : ℕ) (s : Record) → sourceFor sh p v s ≡ some r → r < regCount sh
 unfolding Option·elim newSource
@@ -170,7 +157,7 @@ source-below sh (some q) v r s e =
 by-source : (sh : Sheet) → withinLimits sh ≡ true → (o : Option ℕ) → ((r : ℕ) → o ≡ some r → r < regCount sh) → SmallFate (fateBy o)
 unfolding fateBy
 by-source sh w none h = tt
-by-source sh w (some r) h = omega (arith, h r refl, few-regs sh w)
+by-source sh w (some r) h = omega (arith, h r refl, in-limits sh w .few-regs)
 
 pub fate-small : (sh : Sheet) (b : ℕ) (a : Arrival) (s : Record) → withinLimits sh ≡ true → SmallFate (fateOf sh b a s)
 unfolding fateOf

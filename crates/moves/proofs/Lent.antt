@@ -1,4 +1,4 @@
--- What the two walks over a lent record share, `step` and `lent_step`: a record in memory as the machine's cell, and back; what the holder of a
+-- What the two walks over a lent record share, `step` and `lent_step` of src/lib.rt: a record in memory as the machine's cell, and back; what the holder of a
 -- `&mut WalkRecord` owns; and what is passed beside the record. Nothing here opens what a step does (`Optimises`).
 use Prim.Native.Nat.{ℕ}
 use mathlib.Core.List.{[], _∷_, List}

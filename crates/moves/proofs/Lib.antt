@@ -1,3 +1,4 @@
 pub mod Deciding
+pub mod Walks
 pub mod Moving
 mod Lent

@@ -1,4 +1,5 @@
--- A move or remat, an edit, and the edits of an instruction in the optimising walk and in the preparing one. Assumes nothing.
+-- `optimise_move`, `optimise_edit`, `optimise_edits` and `prepare_edits` of src/lib.rt, with their parts: a move or remat, an edit, and the edits
+-- of an instruction in the optimising walk and in the preparing one. Assumes nothing.
 --     noted-home, not-noted, settled-by       the record after a move that stays
 --     fated-removed, fated-kept, fated-sourced     the record by what becomes of it
 --     rewrite-kept, rewrite-removed, rewrite-sourced     the edits and the counts by what becomes of it
@@ -7,20 +8,19 @@
 --     edits-none, edits-next, edits-end       the edits of an instruction, one after the other
 --     effects-none, effects-next, effects-end the same in the preparing walk
 use mathlib.Core.Path.{_≡_, refl, sym, _∙_, ap}
-use mathlib.Core.Bool.{Bool, true, false, _||_, and-false}
+use mathlib.Core.Bool.{Bool, true, false, _||_}
 use mathlib.Core.List.{List}
 use mathlib.Core.Option.{Option, none, some, Option·elim}
-use Prim.Native.Nat.{ℕ, zero, suc, _+_, _-_, _*_, _<_, _≤_}
+use Prim.Native.Nat.{ℕ, suc, _+_, _-_, _*_, _<_, _≤_}
 use native.Mathlib.Omega.{arith}
-use lib.Dec.{leb}
-use lib.ListN.{length, getD, set, length-set, List·getD-eq-default}
-use lib.Seq.{getD-set-same, getD-set-other, set-getD}
-use borrow.Author.Tests.{lt-ltb, le-ltb, leb-true}
+use lib.ListN.{length, getD, set}
+use lib.Seq.{set-getD}
+use borrow.Author.Tests.{lt-ltb, le-ltb}
 use Rattle.laws.specs.Fold.{run}
 use Rattle.laws.specs.Lists.{from}
-use Rattle.laws.proofs.Cases.{by-bool, by-eq, by-lt}
+use Rattle.laws.proofs.Cases.{by-bool, by-lt}
+use Rattle.laws.proofs.Lists.{run-more}
 use Rattle.entity.specs.Limits.{instLimit, editLimit}
-use Rattle.entity.specs.declared.record.Record.{Record}
 use Rattle.entity.specs.declared.numbers.PhysReg.{PhysReg}
 use Rattle.entity.specs.declared.numbers.SpillSlot.{SpillSlot}
 use Rattle.entity.specs.declared.numbers.Value.{Value}
@@ -28,10 +28,13 @@ use Rattle.entity.specs.declared.forms.Place.{Place}
 use Rattle.entity.specs.declared.forms.Place.the-variants.{Reg}
 use Rattle.entity.specs.declared.forms.Edit.{Edit}
 use Rattle.entity.specs.declared.forms.Edit.the-variants.{Move, Remat, Espill, Ereload, Misplaced, Nothing}
+use Rattle.rules.specs.Cells.{numberLimit}
 use Rattle.rules.specs.Sheet.{Sheet}
-use Rattle.rules.specs.Accept.{withinLimits, placed}
-use Rattle.rules.specs.Record.{holds, arrive, effect}
+use Rattle.rules.specs.Accept.{placed}
+use Rattle.rules.specs.Record.{Record, holds, arrive, effect}
 use Rattle.rules.specs.Forward.{Walk, withRec, count, reloadToMove, lowestHolding, already, toHome, spilledAbove, noteSpill, removal, newSource, becomes, optimiseMove, optimiseEdit, editsAt}
+use Rattle.rules.proofs.Refusals.{in-limits}
+use Rattle.table.specs.Layout.{editIndex, editWidth}
 use Rattle.table.specs.Rows.{countIn}
 use Rattle.table.specs.Sheet.{rowsAt, sheetIn}
 use Rattle.table.specs.Index.{rangeIn, Ready}
@@ -39,11 +42,11 @@ use Rattle.table.specs.Edits.{editIn, editsIn, withEdit, SmallPlace, SmallEdit}
 use Rattle.table.specs.Written.{SmallValue, EditCells}
 use Rattle.table.specs.declared.counts.Count.{Count}
 use Rattle.table.specs.declared.index.Range.{Range}
-use Rattle.table.proofs.Loops.{never}
 use Rattle.table.proofs.Numbered as Numbered
 use Rattle.table.proofs.Ranges.{before-within}
 use Rattle.table.proofs.Sheets.{editRowOf, read-long, edits-are, rows-long}
 use Rattle.table.proofs.Stored.{with-length, edits-with, edits-at, cells-with, read-back}
+use Rattle.table.proofs.Counted.{count-more}
 use Rattle.record.specs.Flat.{recordIn, spilledBy, Long, Becomes}
 use Rattle.record.proofs.Changes.{spilling, becomes-same, long-after, after}
 use Rattle.holders.specs.Holders.{Filled}
@@ -55,6 +58,7 @@ use Rattle.moves.specs.declared.Arrival.{Arrival}
 use Rattle.moves.specs.declared.Fate.{Fate}
 use Rattle.moves.specs.declared.Fate.the-variants.{Kept, Removed, Sourced}
 use Rattle.moves.proofs.Deciding.{fate-small}
+use Rattle.moves.proofs.Walks.{written-fewer, written-rec, walked-fewer, walked-with}
 
 -- ---- the record
 
@@ -86,58 +90,23 @@ fated-removed sh r b a e l = rw e (becomes-same r)
 
 -- ---- the edits and the counts
 
--- one more of a count
-count-few : (counts : List ℕ) (k i n : ℕ) → getD counts i 0 + (n + 1) < 4294967296 → getD (count k counts) i 0 + n < 4294967296
-unfolding count
-count-few counts k i n h =
-    by-eq i k
-    (λ e. by-lt k (length counts)
-    (λ l. rw (e, getD-set-same counts k (getD counts k 0 + 1) 0 l) (let g : getD counts k 0 + (n + 1) < 4294967296 = rw e at h in omega arith))
-    (λ l. let m : length (set counts k (getD counts k 0 + 1)) ≤ i = simp length-set (omega arith) in rw (List·getD-eq-default (set counts k (getD counts k 0 + 1)) 0 {n = i} m) (omega arith)))
-    (λ e. rw (getD-set-other counts k i (getD counts k 0 + 1) 0 e) (omega arith))
-
 module _ {t edits places counts : List ℕ} where
-  pub written-less : {w : Walk} (m n : ℕ) → m ≤ n → Written t edits places counts n w → Written t edits places counts m w
-  written-less m n h g =
-      record {
-        edit-room = g .edit-room;
-        edit-cells = g .edit-cells;
-        is-edits = g .is-edits;
-        place-room = g .place-room;
-        place-cells = g .place-cells;
-        is-places = g .is-places;
-        few = λ k. omega (arith, g .few k);
-        is-counts = g .is-counts;
-      }
-
-  -- of the record it says nothing
-  written-rec : {w : Walk} (n : ℕ) (f : Record → Record) → Written t edits places counts n w → Written t edits places counts n (withRec f w)
-  written-rec n f g =
-      record {
-        edit-room = g .edit-room;
-        edit-cells = g .edit-cells;
-        is-edits = g .is-edits;
-        place-room = g .place-room;
-        place-cells = g .place-cells;
-        is-places = g .is-places;
-        few = g .few;
-        is-counts = g .is-counts;
-      }
-
   written-with : {edits′ counts′ : List ℕ} (j k n : ℕ) (e : Edit) (w : Walk) → placed e ≡ true → SmallEdit e → SmallValue e
       → (SmallEdit e → edits′ ≡ withEdit edits j e) → (getD counts k 0 < 4294967295 → counts′ ≡ count k counts)
       → j < length (sheetIn t .edits) → Written t edits places counts (n + 1) w → Written t edits′ places counts′ n (recounted j e k w)
   written-with j k n e w pl s v p q h g =
-      let room : length (sheetIn t .edits) * 4 ≤ length edits = g .edit-room in
+      let room : length (sheetIn t .edits) * editWidth ≤ length edits = g .edit-room in
       rw (p s, q (omega (arith, g .few k)))
       (record {
         edit-room = rw (with-length edits j e) room;
-        edit-cells = λ i u. cells-with edits j e i (omega arith) pl s v (g .edit-cells i u);
-        is-edits = ap (λ (l : List Edit). set l j e) (g .is-edits) ∙ sym (edits-with edits j e (length (sheetIn t .edits)) (omega arith) (read-back e pl s));
         place-room = g .place-room;
-        place-cells = g .place-cells;
-        is-places = g .is-places;
-        few = λ i. count-few counts k i n (g .few i);
+        in-cells = record {
+          edit-cells = λ i u. cells-with edits j e i (omega arith) pl s v (g .in-cells .edit-cells i u);
+          is-edits = ap (λ (l : List Edit). set l j e) (g .in-cells .is-edits) ∙ sym (edits-with edits j e (length (sheetIn t .edits)) (omega arith) (read-back e pl s));
+          place-cells = g .in-cells .place-cells;
+          is-places = g .in-cells .is-places;
+        };
+        few = λ i. omega (arith, g .few i, count-more k i counts);
         is-counts = ap (count k) (g .is-counts);
       })
 
@@ -150,7 +119,7 @@ Rewrites edits counts edits′ counts′ j a f =
 module _ (edits counts : List ℕ) (j : ℕ) (a : Arrival) {f : Fate} where
   pub rewrite-kept : f ≡ Kept → Rewrites edits counts edits counts j a f
   unfolding rewritten
-  rewrite-kept e sa sf t places n w h g = rw e (written-less n (n + 1) (omega arith) g)
+  rewrite-kept e sa sf t places n w h g = rw e (written-fewer n (omega arith) g)
 
   module _ {edits′ counts′ : List ℕ} where
     pub rewrite-removed : {k : Count} → f ≡ Removed k → (SmallEdit Nothing → edits′ ≡ withEdit edits j Nothing) → (getD counts (k .0) 0 < 4294967295 → counts′ ≡ count (k .0) counts) → Rewrites edits counts edits′ counts′ j a f
@@ -162,7 +131,7 @@ module _ (edits counts : List ℕ) (j : ℕ) (a : Arrival) {f : Fate} where
         → Rewrites edits counts edits′ counts′ j a f
     unfolding rewritten placed
     rewrite-sourced {r} e o p q sa sf t places n w h g =
-        let small : r .0 < 100000 = rw e at sf in
+        let small : r .0 < numberLimit = rw e at sf in
         let p′ : SmallEdit (Move (a .to) (Reg r) (a .value)) → edits′ ≡ withEdit edits j (Move (a .to) (Reg r) (a .value)) = rw o at p in
         rw e (written-with j reloadToMove n (Move (a .to) (Reg r) (a .value)) w refl (sa .0, small) (sa .1) p′ q h g)
 
@@ -234,7 +203,7 @@ module _ (sh : Sheet) (b j : ℕ) (a : Arrival) (w : Walk) where
   move-is : getD (w .edits) j Nothing ≡ asEdit a → parts (fateOf sh b a (w .rec)) ≡ whole
   move-is g = by-bool gone parts-gone (λ h. parts-stay h (sourceFor sh (sourceOf (a .from)) (a .value .0) (w .rec)) refl g)
 
-small-edit : (to : Place) (p : Option Place) (v : ℕ) → SmallEdit (editBy to p v) → SmallValue (editBy to p v) → SmallPlace to × (v < 100000)
+small-edit : (to : Place) (p : Option Place) (v : ℕ) → SmallEdit (editBy to p v) → SmallValue (editBy to p v) → SmallPlace to × (v < numberLimit)
 unfolding editBy
 small-edit to none v s x = (s, x)
 small-edit to (some q) v s x = (s .0, x)
@@ -242,11 +211,11 @@ small-edit to (some q) v s x = (s .0, x)
 -- row j of the edits
 module _ {t rec edits places counts : List ℕ} {w : Walk} where
   row-is : (n j : ℕ) → j < length (sheetIn t .edits) → Walked t rec edits places counts n w → getD (w .edits) j Nothing ≡ editIn edits j
-  row-is n j h k = rw (k .cells .is-edits) (edits-at edits (length (sheetIn t .edits)) j Nothing h)
+  row-is n j h k = rw (k .cells .in-cells .is-edits) (edits-at edits (length (sheetIn t .edits)) j Nothing h)
 
   small-arrival : (n j : ℕ) (a : Arrival) → j < length (sheetIn t .edits) → getD (w .edits) j Nothing ≡ asEdit a → Walked t rec edits places counts n w → SmallArrival a
   small-arrival n j a h e k =
-      let c : EditCells edits j = k .cells .edit-cells j h in
+      let c : EditCells edits j = k .cells .in-cells .edit-cells j h in
       let r : editIn edits j ≡ asEdit a = sym (row-is n j h k) ∙ e in
       small-edit (a .to) (sourceOf (a .from)) (a .value .0) (rw r at (c .small)) (rw r at (c .value))
 
@@ -269,26 +238,17 @@ move-by {t} {rec = rec} {rec′ = rec′} {edits′ = edits′} {counts′ = cou
     record {
       long = long-after x (k .long);
       is-rec = ap (fatedRecord sh b a f) (rewritten-rec j a f w ∙ k .is-rec) ∙ sym (x .is);
-      cells = written-rec n (fatedRecord sh b a f) (q (small-arrival (n + 1) j a h e k) small t places n w h (k .cells));
+      cells = written-rec (fatedRecord sh b a f) (q (small-arrival (n + 1) j a h e k) small t places n w h (k .cells));
     } in
     let is : parts sh b j a w f ≡ whole sh b j a w = ap (parts sh b j a w) fate ∙ move-is sh b j a w e in
     rw is at y
 
 -- ---- an edit
 
-pub walked-less : {t rec edits places counts : List ℕ} {w : Walk} (m n : ℕ) → m ≤ n → Walked t rec edits places counts n w → Walked t rec edits places counts m w
-walked-less m n h k = record { long = k .long; is-rec = k .is-rec; cells = written-less m n h (k .cells) }
-
 -- the record alone changes
 walked-rec : {t rec rec′ edits places counts : List ℕ} {w : Walk} (n : ℕ) (f : Record → Record) → (Long rec → Becomes rec rec′ (f (recordIn rec)))
     → Walked t rec edits places counts (n + 1) w → Walked t rec′ edits places counts n (withRec f w)
-walked-rec n f p k =
-    let x = p (k .long) in
-    record {
-      long = long-after x (k .long);
-      is-rec = ap f (k .is-rec) ∙ sym (x .is);
-      cells = written-rec n f (written-less n (n + 1) (omega arith) (k .cells));
-    }
+walked-rec n f p k = walked-with f p (walked-fewer n (omega arith) k)
 
 module _ {t classes rec edits counts : List ℕ} (b j : ℕ) {e : Edit} (r : e ≡ editIn edits j) where
   module _ {rec′ edits′ counts′ : List ℕ} where
@@ -332,7 +292,7 @@ module _ {t classes rec edits counts : List ℕ} (b j : ℕ) {e : Edit} (r : e �
   edit-misplaced q = record {
     goes = λ g fl places n w h k.
         let row : getD (w .edits) j Nothing ≡ e = row-is (n + 1) j h k ∙ sym r in
-        rw (row ∙ q, optimiseEdit) (walked-less n (n + 1) (omega arith) k);
+        rw (row ∙ q, optimiseEdit) (walked-fewer n (omega arith) k);
   }
 
   pub edit-none : e ≡ Nothing → Optimises t classes rec edits counts rec edits counts b j
@@ -340,30 +300,20 @@ module _ {t classes rec edits counts : List ℕ} (b j : ℕ) {e : Edit} (r : e �
   edit-none q = record {
     goes = λ g fl places n w h k.
         let row : getD (w .edits) j Nothing ≡ e = row-is (n + 1) j h k ∙ sym r in
-        rw (row ∙ q, optimiseEdit) (walked-less n (n + 1) (omega arith) k);
+        rw (row ∙ q, optimiseEdit) (walked-fewer n (omega arith) k);
   }
 
 -- ---- the rows of an instruction
 
-few-edits : (sh : Sheet) → withinLimits sh ≡ true → length (sh .edits) ≤ editLimit
-unfolding withinLimits
-few-edits sh e = by-bool (leb (length (sh .edits)) editLimit) (λ p. leb-true _ _ p) (λ p. let z : false ≡ true = simp (p, and-false) at e in never z)
-
-rows-within : {t : List ℕ} → Ready t → (i : ℕ) → rangeIn t 56008 instLimit i .to ≤ length (sheetIn t .edits)
+rows-within : {t : List ℕ} → Ready t → (i : ℕ) → rangeIn t editIndex instLimit i .to ≤ length (sheetIn t .edits)
 unfolding rangeIn
 rows-within {t} g i =
     let m : length (sheetIn t .edits) ≡ countIn t 12 = ap length (edits-are t .is) ∙ read-long t 12 editRowOf in
     by-lt i instLimit
     (λ h.
-    let e : 56008 + i + 1 ≡ 56008 + (i + 1) = omega arith in
+    let e : editIndex + i + 1 ≡ editIndex + (i + 1) = omega arith in
     rw (lt-ltb i instLimit h, e, g .built .edits (i + 1) (omega arith)) (omega (arith, before-within (i + 1) (rowsAt t 12), rows-long t 12)))
     (λ h. rw (le-ltb i instLimit h) (omega arith))
-
--- a run's last step
-run-more : {S : Type 0} (f : S → ℕ → S) (s : S) (a n : ℕ) → run f s (from a (suc n)) ≡ f (run f s (from a n)) (a + n)
-unfolding run from
-run-more f s a zero = ap (f s) (omega arith)
-run-more f s a (suc n) = run-more f (f s a) (suc a) n ∙ ap (f (run f (f s a) (from (suc a) n))) (omega arith)
 
 run-next : {S : Type 0} (f : S → ℕ → S) (s : S) (a j : ℕ) → a ≤ j → run f s (from a (j + 1 - a)) ≡ f (run f s (from a (j - a))) j
 run-next f s a j h =
@@ -372,7 +322,7 @@ run-next f s a j h =
     rw m (run-more f s a (j - a) ∙ ap (f (run f s (from a (j - a)))) e)
 
 -- the rows of instruction i are passed up to j
-module _ {t : List ℕ} {r : Range} (i : ℕ) (e : r ≡ rangeIn t 56008 instLimit i) where
+module _ {t : List ℕ} {r : Range} (i : ℕ) (e : r ≡ rangeIn t editIndex instLimit i) where
   row-in : {j : ℕ} → Ready t → j < r .to → j < length (sheetIn t .edits)
   row-in g h = let m : r .to ≤ length (sheetIn t .edits) = rw e (rows-within g i) in omega arith
 
@@ -395,19 +345,19 @@ module _ (t classes rec edits counts : List ℕ) (b a : ℕ) where
       let q : n ≡ m = omega arith in
       rw (z, ← q) k
 
-module _ {t classes rec edits counts rec₁ edits₁ counts₁ : List ℕ} {r : Range} (b i : ℕ) {j : ℕ} (e : r ≡ rangeIn t 56008 instLimit i) (p : Passed t classes rec edits counts rec₁ edits₁ counts₁ b (r .from) j) where
+module _ {t classes rec edits counts rec₁ edits₁ counts₁ : List ℕ} {r : Range} (b i : ℕ) {j : ℕ} (e : r ≡ rangeIn t editIndex instLimit i) (p : Passed t classes rec edits counts rec₁ edits₁ counts₁ b (r .from) j) where
   pub edits-next : {rec₂ edits₂ counts₂ : List ℕ} → Optimises t classes rec₁ edits₁ counts₁ rec₂ edits₂ counts₂ b j → r .from ≤ j → j < r .to → Passed t classes rec edits counts rec₂ edits₂ counts₂ b (r .from) (j + 1)
   edits-next q h l o fl places m n w s k =
       rw (run-next (optimiseEdit (sheetIn t) b) w (r .from) j h)
       (q .goes (o .ready) fl places m (run (optimiseEdit (sheetIn t) b) w (from (r .from) (j - r .from))) (row-in i e (o .ready) l) (p o fl places (m + 1) n w (omega arith) k))
 
-  pub edits-end : r .from ≤ j → j - r .from ≤ r .to - r .from → r .to ≤ j → Ordered t → Filled (sheetIn t) classes → (places : List ℕ) (n : ℕ) (w : Walk) → Walked t rec edits places counts (n + 1024) w
+  pub edits-end : r .from ≤ j → j - r .from ≤ r .to - r .from → r .to ≤ j → Ordered t → Filled (sheetIn t) classes → (places : List ℕ) (n : ℕ) (w : Walk) → Walked t rec edits places counts (n + editLimit) w
       → Walked t rec₁ edits₁ places counts₁ n (run (optimiseEdit (sheetIn t) b) w (editsAt (sheetIn t) i))
   edits-end h u l o fl places n w k =
-      let f = few-edits (sheetIn t) (o .ready .limits) in
+      let f = in-limits (sheetIn t) (o .ready .limits) .few-edits in
       let c : r .to ≤ length (sheetIn t .edits) = rw e (rows-within (o .ready) i) in
       rw (rows-all i e o h u l)
-      (walked-less n (n + 1024 - (j - r .from)) (omega arith) (p o fl places (n + 1024 - (j - r .from)) (n + 1024) w (omega arith) k))
+      (walked-fewer n (omega arith) (p o fl places (n + editLimit - (j - r .from)) (n + editLimit) w (omega arith) k))
 
 -- ---- the preparing walk
 
@@ -422,7 +372,7 @@ pub effects-none : (t edits rec : List ℕ) (a : ℕ) → Prepared t edits rec r
 unfolding run from
 effects-none t edits rec a o l = let z : a - a ≡ 0 = omega arith in rw z (becomes-same rec)
 
-module _ {t : List ℕ} (edits : List ℕ) {rec rec₁ : List ℕ} {r : Range} (i : ℕ) {j : ℕ} (e : r ≡ rangeIn t 56008 instLimit i) (p : Prepared t edits rec rec₁ (r .from) j) where
+module _ {t : List ℕ} (edits : List ℕ) {rec rec₁ : List ℕ} {r : Range} (i : ℕ) {j : ℕ} (e : r ≡ rangeIn t editIndex instLimit i) (p : Prepared t edits rec rec₁ (r .from) j) where
   pub effects-next : {rec₂ : List ℕ} {x : Edit} → x ≡ editIn edits j → (Long rec₁ → Becomes rec₁ rec₂ (effect (sheetIn t) x (recordIn rec₁))) → r .from ≤ j → j < r .to → Prepared t edits rec rec₂ (r .from) (j + 1)
   effects-next {x = x} f q h l o n =
       let y = p o n in

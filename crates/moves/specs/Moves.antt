@@ -4,13 +4,13 @@ use mathlib.Core.Bool.{cond, _||_}
 use mathlib.Core.Option.{Option, none, some, Option·elim}
 use Prim.Native.Nat.{ℕ, _<_}
 use lib.ListN.{set}
-use Rattle.entity.specs.declared.record.Record.{Record}
 use Rattle.entity.specs.declared.forms.Place.{Place}
 use Rattle.entity.specs.declared.forms.Place.the-variants.{Reg}
 use Rattle.entity.specs.declared.forms.Edit.{Edit}
 use Rattle.entity.specs.declared.forms.Edit.the-variants.{Move, Remat, Nothing}
+use Rattle.rules.specs.Cells.{numberLimit}
 use Rattle.rules.specs.Sheet.{Sheet}
-use Rattle.rules.specs.Record.{arrive}
+use Rattle.rules.specs.Record.{Record, arrive}
 use Rattle.rules.specs.Forward.{Walk, reloadToMove, count, already, spilledAbove, noteSpill, removal, newSource}
 use Rattle.table.specs.Edits.{SmallPlace}
 use Rattle.moves.specs.declared.Source.{Source}
@@ -73,9 +73,9 @@ rewritten j a (Sourced r) w = recounted j (Move (a .to) (Reg r) (a .value)) relo
 
 -- "at most five digits"
 abbrev pub SmallArrival : Arrival → Type 0
-SmallArrival a = SmallPlace (a .to) × (a .value .0 < 100000)
+SmallArrival a = SmallPlace (a .to) × (a .value .0 < numberLimit)
 
 abbrev pub SmallFate : Fate → Type 0
 SmallFate Kept = Unit {0}
 SmallFate (Removed k) = Unit {0}
-SmallFate (Sourced r) = r .0 < 100000
+SmallFate (Sourced r) = r .0 < numberLimit

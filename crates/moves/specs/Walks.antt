@@ -7,17 +7,17 @@ use lib.Dec.{eqb}
 use lib.ListN.{length, getD}
 use Rattle.laws.specs.Fold.{run}
 use Rattle.laws.specs.Lists.{keep}
-use Rattle.entity.specs.declared.record.Record.{Record}
+use Rattle.entity.specs.Limits.{slotLimit, regLimit, blockLimit, instLimit, operandLimit, editLimit}
 use Rattle.entity.specs.declared.forms.Edit.{Edit}
 use Rattle.entity.specs.declared.forms.Edit.the-variants.{Nothing}
 use Rattle.rules.specs.Sheet.{Sheet, instsOf}
 use Rattle.rules.specs.Accept.{inOrder}
-use Rattle.rules.specs.Record.{define, effect}
+use Rattle.rules.specs.Record.{Record, define, effect}
 use Rattle.rules.specs.Forward.{Walk, withRec, editsAt, optimiseEdit, optimiseInst, prepareInst}
+use Rattle.table.specs.Layout.{editWidth}
 use Rattle.table.specs.Sheet.{sheetIn}
 use Rattle.table.specs.Index.{Ready}
-use Rattle.table.specs.Edits.{editsIn, placesIn}
-use Rattle.table.specs.Written.{EditCells, PlaceCell}
+use Rattle.table.specs.Written.{InCells}
 use Rattle.record.specs.Flat.{recordIn, Long}
 use Rattle.holders.specs.Holders.{Filled}
 
@@ -26,14 +26,27 @@ pub record Ordered (t : List ℕ) : Type 0 where
   pub ready : Ready t
   pub order : inOrder (sheetIn t .edits) ≡ true
 
+-- how often a count goes up at most: in an instruction, in a block, in all blocks, in the visits of the preparing walk; and this is more than in any walk
+abbrev pub instMost : ℕ
+instMost = editLimit + operandLimit
+
+abbrev pub blockMost : ℕ
+blockMost = instMost * instLimit
+
+abbrev pub allMost : ℕ
+allMost = blockMost * blockLimit
+
+abbrev pub visitMost : ℕ
+visitMost = blockLimit * (regLimit + slotLimit + 2)
+
+abbrev pub walkMost : ℕ
+walkMost = 200000000
+
 -- the walk's edits, places and counts stand in these cells; each count can go up n times more
 pub record Written (t edits places counts : List ℕ) (n : ℕ) (w : Walk) : Type 0 where
-  pub edit-room : length (sheetIn t .edits) * 4 ≤ length edits
-  pub edit-cells : (j : ℕ) → j < length (sheetIn t .edits) → EditCells edits j
-  pub is-edits : w .edits ≡ editsIn edits (length (sheetIn t .edits))
+  pub edit-room : length (sheetIn t .edits) * editWidth ≤ length edits
   pub place-room : length (sheetIn t .ops) ≤ length places
-  pub place-cells : (j : ℕ) → j < length (sheetIn t .ops) → PlaceCell (getD places j 0)
-  pub is-places : w .places ≡ placesIn places (length (sheetIn t .ops))
+  pub in-cells : InCells t edits places (w .edits) (w .places)
   pub few : (k : ℕ) → getD counts k 0 + n < 4294967296
   pub is-counts : w .counts ≡ counts
 

@@ -5,6 +5,7 @@ ghost use mathlib.Core.List.{List};
 ghost use Prim.Native.Nat.{ℕ, _+_, _<_};
 ghost use lib.ListN.{length, getD};
 ghost use Rattle.laws.specs.Fold.{run};
+ghost use Rattle.entity.specs.Limits.{editLimit};
 ghost use Rattle.rules.specs.Sheet.{Sheet};
 ghost use Rattle.rules.specs.Record.{effect};
 ghost use Rattle.rules.specs.Forward as Rule;
@@ -346,7 +347,7 @@ pub fn optimise_edits(
     i: Inst,
 )
     ensures { λ _. ⌜ (Ordered (now (t .entry)) → Filled (sheetIn (now (t .entry))) (now (classes .entry)) → (places : List ℕ) (n : ℕ) (w : Walk)
-        → Walked (now (t .entry)) (now (rec .entry)) (now (edits .entry)) places (now (counts .entry)) (n + 1024) w
+        → Walked (now (t .entry)) (now (rec .entry)) (now (edits .entry)) places (now (counts .entry)) (n + editLimit) w
         → Walked (now (t .entry)) (now (rec .exit)) (now (edits .exit)) places (now (counts .exit)) n (run (optimiseEdit (sheetIn (now (t .entry))) (b .0)) w (editsAt (sheetIn (now (t .entry))) (i .0)))) ⌝ }
 {
     let rows = edit_rows(t, i);

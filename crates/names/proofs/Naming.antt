@@ -1,4 +1,4 @@
--- What one row of a kind names, by what the code reads off it. Assumes nothing.
+-- For `home_named`, `idom_named`, `param_named` and `op_named` of `src/names.rt`: what one row names, by what the code reads off it. Assumes nothing.
 use mathlib.Core.Path.{_≡_, refl, sym, _∙_}
 use mathlib.Core.Bool.{Bool, true, _&&_}
 use mathlib.Core.Option.{Option, none, some, Option·elim}

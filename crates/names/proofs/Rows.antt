@@ -1,7 +1,8 @@
--- Loops over the rows of a kind that return at the first that fails a test; and the steps of such tests. Assumes nothing.
+-- For the loops of `src/limits.rt` and `src/names.rt`: over the rows of a kind, returning at the first that fails a test; and the steps of such tests.
+-- Assumes nothing.
 use mathlib.Core.Path.{_≡_, refl, sym, ap, _∙_}
 use mathlib.Core.Bool.{Bool, true, false, _&&_}
-use mathlib.Core.List.{List, [], _∷_, map}
+use mathlib.Core.List.{List, [], _∷_, map, map-id}
 use Prim.Native.Nat.{ℕ, _+_, _≤_, _<_}
 use native.Mathlib.Omega.{arith}
 use lib.Dec.{leb, ltb}
@@ -38,12 +39,8 @@ module _ {A : Type 0} {t : List ℕ} {k : ℕ} {f : List ℕ → A} {l : List A}
 pub by-rows : {A : Type 0} {t : List ℕ} {k : ℕ} {f : List ℕ → A} {l : List A} → ReadOff t k f l → (p : A → Bool) → all p l ≡ all (λ r. p (f r)) (rowsAt t k)
 by-rows {t = t} {k = k} {f = f} x p = ap (all p) (x .is) ∙ all-map f p (rowsAt t k)
 
-map-same : {A : Type 0} (l : List A) → l ≡ map (λ x. x) l
-map-same [] = refl
-map-same (x ∷ l) = ap (λ r. x ∷ r) (map-same l)
-
 pub rows-self : (t : List ℕ) (k : ℕ) → ReadOff t k (λ r. r) (rowsAt t k)
-rows-self t k = record { is = map-same (rowsAt t k) }
+rows-self t k = record { is = sym (map-id (rowsAt t k)) }
 
 -- a number that passes its limit, and one that does not
 module _ {n m : ℕ} (e : n ≡ m) (limit : ℕ) where

@@ -1,4 +1,5 @@
--- Loops that gather a set, and the test whether one of a list stands twice by the set of those passed. Assumes nothing.
+-- For `src/lists.rt`, and `all_units` of `src/names.rt`: loops that gather a set, and the test whether one of a list stands twice by the set of those
+-- passed. Assumes nothing.
 use mathlib.Core.Path.{_≡_, refl, sym, ap, _∙_}
 use mathlib.Core.Bool.{Bool, true, false, _&&_, _||_, or-assoc, or-true, or-false, and-false}
 use mathlib.Core.List.{List, [], _∷_}

@@ -1,11 +1,12 @@
--- The instructions of all blocks, summed block by block up to the limit; groups whose heads stand apart, group by group. Assumes nothing.
+-- For `inst_total` of `src/limits.rt`: the instructions of all blocks, summed block by block up to the limit. For `heads_apart` of `src/names.rt`: groups
+-- whose heads stand apart, group by group. Assumes nothing.
 use mathlib.Core.Path.{_≡_, _∙_}
 use mathlib.Core.Bool.{Bool, true, false, not, cond}
 use mathlib.Core.List.{List}
 use Prim.Native.Nat.{ℕ, _+_, _≤_, _<_}
 use native.Mathlib.Numerals.{add-one}
 use native.Mathlib.Omega.{arith}
-use lib.Dec.{leb, eqb}
+use lib.Dec.{leb}
 use lib.ListN.{length, getD, drop, drop-of-length-le}
 use lib.Seq.{drop-cons}
 use borrow.Author.Tests.{le-leb, lt-leb, leb-true}
@@ -45,9 +46,6 @@ module _ (n : ℕ) {r : ℕ} (e : r ≡ capped n) where
   capped-is p = e ∙ rw p
 
 -- ---- heads
-
-pub eq-is : (n : ℕ) {a b : ℕ} → a ≡ b → eqb a n ≡ eqb b n
-eq-is n e = rw e
 
 pub head-same : {c c′ r r′ : ℕ} → c ≡ c′ → r ≡ r′ → (l : List GroupRow) → any (headedBy c r) l ≡ any (headedBy c′ r′) l
 head-same p q l = rw (p, q)

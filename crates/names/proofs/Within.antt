@@ -1,43 +1,30 @@
--- What `withinLimits` and `allNamed` say, fact by fact, and in the steps in which the code goes. Assumes nothing.
+-- For `within_limits` of src/limits.rt, `all_named` and `none_twice` of src/names.rt: what `withinLimits` and `allNamed` say, in the steps in
+-- which the code goes (specs/Steps.antt). Assumes nothing.
 use mathlib.Core.Path.{_≡_, refl, sym, ap, _∙_}
 use mathlib.Core.Bool.{Bool, true, false, not, _&&_}
-use mathlib.Core.List.{List, [], _∷_}
+use mathlib.Core.List.{List}
 use mathlib.Core.Option.{Option·elim}
-use Prim.Native.Nat.{ℕ, zero, suc, _≤_}
+use Prim.Native.Nat.{ℕ, _≤_}
 use native.Mathlib.Omega.{arith}
 use lib.Dec.{leb, ltb}
-use lib.ListN.{length, getD, drop}
-use borrow.Author.Tests.{leb-true, le-leb, ltb-true, lt-ltb}
+use lib.ListN.{length, drop}
+use borrow.Author.Tests.{le-leb, ltb-true, lt-ltb}
 use Rattle.laws.specs.Lists.{all, twice}
-use Rattle.entity.specs.Limits.{slotLimit, regLimit, unitLimit, classLimit, groupLimit, valueLimit, valueGroupLimit, blockLimit, instLimit, operandLimit, editLimit}
+use Rattle.entity.specs.Limits.{unitLimit, blockLimit, instLimit, operandLimit, editLimit}
 use Rattle.bits.specs.declared.sets.NumberSet.{NumberSet}
 use Rattle.bits.specs.Sets.{has, setOf, setLimit}
 use Rattle.rules.specs.Sheet.{Sheet, ListRow, regCount, blockCount, instCount, listRow}
-use Rattle.rules.specs.Accept.{unitsWithin, reuseWithin, withinLimits, unitExists, regExists, classExists, valueExists, blockExists, slotExists, allNamed}
+use Rattle.rules.specs.Accept.{unitsWithin, reuseWithin, withinLimits, unitExists, regExists, classExists, blockExists, allNamed}
+use Rattle.rules.proofs.Refusals.{in-limits, each-named}
 use Rattle.table.specs.Sheet.{rowsAt, sheetIn}
 use Rattle.table.proofs.Sheets.{ReadOff, regs-are, classes-are, groups-are, vgroups-are, succs-are, preds-are, clobs-are}
-use Rattle.table.proofs.Loops.{and-left, and-right, all-same}
+use Rattle.table.proofs.Loops.{and-right, all-same}
 use Rattle.names.specs.Steps.{machineWithin, groupNamed, edgeNamed, paramNamed, opNamed, editNamed, clobNamed, machineNamed, codeNamed}
 use Rattle.names.proofs.Rows.{by-rows}
 use Rattle.names.proofs.Sets.{below, all-more, all-on, all-setOf}
 use Rattle.names.proofs.Totals.{capped, capped-is}
 
 -- ---- 2
-
-pub record Within (sh : Sheet) : Type 0 where
-  pub few-slots : sh .slots ≤ slotLimit
-  pub few-regs : regCount sh ≤ regLimit
-  pub small-units : all (λ r. unitsWithin (r .units)) (sh .regs) ≡ true
-  pub few-classes : length (sh .classes) ≤ classLimit
-  pub few-groups : length (sh .groups) ≤ groupLimit
-  pub few-values : length (sh .values) ≤ valueLimit
-  pub few-vgroups : length (sh .vgroups) ≤ valueGroupLimit
-  pub few-blocks : blockCount sh ≤ blockLimit
-  pub few-insts : instCount sh ≤ instLimit
-  pub few-ops : length (sh .ops) ≤ operandLimit
-  pub small-reuses : all (λ o. reuseWithin (o .constraint)) (sh .ops) ≡ true
-  pub small-clobbers : all (λ c. unitsWithin (c .list)) (sh .clobs) ≡ true
-  pub few-edits : length (sh .edits) ≤ editLimit
 
 -- by the code's steps
 pub limits-by : (sh : Sheet) → withinLimits sh ≡
@@ -51,102 +38,7 @@ pub limits-by : (sh : Sheet) → withinLimits sh ≡
 unfolding withinLimits machineWithin
 limits-by sh = refl
 
--- tests joined by `&&`, from the left
-joined : Bool → List Bool → Bool
-joined a [] = a
-joined a (b ∷ bs) = joined (a && b) bs
-
-each : (a : Bool) (bs : List Bool) → joined a bs ≡ true → (j : ℕ) → getD (a ∷ bs) j true ≡ true
-unfolding joined
-each a [] e zero = e
-each a [] e (suc j) = refl
-each a (b ∷ bs) e zero = and-left a b (each (a && b) bs e 0)
-each a (b ∷ bs) e (suc zero) = and-right a b (each (a && b) bs e 0)
-each a (b ∷ bs) e (suc (suc j)) = each (a && b) bs e (suc j)
-
-limitTests : Sheet → List Bool
-limitTests sh =
-    leb (regCount sh) regLimit
-    ∷ all (λ r. unitsWithin (r .units)) (sh .regs)
-    ∷ leb (length (sh .classes)) classLimit
-    ∷ leb (length (sh .groups)) groupLimit
-    ∷ leb (length (sh .values)) valueLimit
-    ∷ leb (length (sh .vgroups)) valueGroupLimit
-    ∷ leb (blockCount sh) blockLimit
-    ∷ leb (instCount sh) instLimit
-    ∷ leb (length (sh .ops)) operandLimit
-    ∷ all (λ o. reuseWithin (o .constraint)) (sh .ops)
-    ∷ all (λ c. unitsWithin (c .list)) (sh .clobs)
-    ∷ leb (length (sh .edits)) editLimit
-    ∷ []
-
-pub within : (sh : Sheet) → withinLimits sh ≡ true → Within sh
-unfolding withinLimits joined limitTests
-within sh e =
-    let at = each (leb (sh .slots) slotLimit) (limitTests sh) e in
-    record {
-      few-slots = leb-true _ _ (at 0);
-      few-regs = leb-true _ _ (at 1);
-      small-units = at 2;
-      few-classes = leb-true _ _ (at 3);
-      few-groups = leb-true _ _ (at 4);
-      few-values = leb-true _ _ (at 5);
-      few-vgroups = leb-true _ _ (at 6);
-      few-blocks = leb-true _ _ (at 7);
-      few-insts = leb-true _ _ (at 8);
-      few-ops = leb-true _ _ (at 9);
-      small-reuses = at 10;
-      small-clobbers = at 11;
-      few-edits = leb-true _ _ (at 12);
-    }
-
 -- ---- 3
-
--- what `allNamed` asks, kind by kind
-pub record Named (sh : Sheet) : Type 0 where
-  pub classes : all (λ c. all (regExists sh) (c .members)) (sh .classes) ≡ true
-  pub groups : all (groupNamed sh) (sh .groups) ≡ true
-  pub homes : all (λ h. Option·elim h true (slotExists sh)) (sh .values) ≡ true
-  pub vgroups : all (λ g. all (valueExists sh) g) (sh .vgroups) ≡ true
-  pub idoms : all (λ b. Option·elim (b .idom) true (blockExists sh)) (sh .blocks) ≡ true
-  pub succs : all (edgeNamed sh) (sh .succs) ≡ true
-  pub preds : all (edgeNamed sh) (sh .preds) ≡ true
-  pub params : all (paramNamed sh) (sh .params) ≡ true
-  pub ops : all (opNamed sh (instCount sh)) (sh .ops) ≡ true
-  pub clobs : all (clobNamed (unitExists sh) (instCount sh)) (sh .clobs) ≡ true
-  pub edits : all (editNamed sh (instCount sh)) (sh .edits) ≡ true
-
-nameTests : Sheet → List Bool
-nameTests sh =
-    all (groupNamed sh) (sh .groups)
-    ∷ all (λ h. Option·elim h true (slotExists sh)) (sh .values)
-    ∷ all (λ g. all (valueExists sh) g) (sh .vgroups)
-    ∷ all (λ b. Option·elim (b .idom) true (blockExists sh)) (sh .blocks)
-    ∷ all (edgeNamed sh) (sh .succs)
-    ∷ all (edgeNamed sh) (sh .preds)
-    ∷ all (paramNamed sh) (sh .params)
-    ∷ all (opNamed sh (instCount sh)) (sh .ops)
-    ∷ all (clobNamed (unitExists sh) (instCount sh)) (sh .clobs)
-    ∷ all (editNamed sh (instCount sh)) (sh .edits)
-    ∷ []
-
-pub named : (sh : Sheet) → allNamed sh ≡ true → Named sh
-unfolding allNamed joined nameTests
-named sh e =
-    let at = each (all (λ c. all (regExists sh) (c .members)) (sh .classes)) (nameTests sh) e in
-    record {
-      classes = at 0;
-      groups = at 1;
-      homes = at 2;
-      vgroups = at 3;
-      idoms = at 4;
-      succs = at 5;
-      preds = at 6;
-      params = at 7;
-      ops = at 8;
-      clobs = at 9;
-      edits = at 10;
-    }
 
 and-last : (a b c d : Bool) → (a && b && c && d) ≡ (a && (b && c && d))
 and-last true b c d = refl
@@ -180,13 +72,13 @@ module _ (sh : Sheet) (w : withinLimits sh ≡ true) {insts : ℕ} (e : insts �
   pub code-is : codeNamed sh (has s) insts ≡ codeNamed sh (unitExists sh) (instCount sh)
   unfolding codeNamed unitsWithin
   code-is =
-      let r : insts ≡ instCount sh = capped-is (instCount sh) e (le-leb _ _ (within sh w .few-insts)) in
+      let r : insts ≡ instCount sh = capped-is (instCount sh) e (le-leb _ _ (in-limits sh w .few-insts)) in
       rw (
         r,
         q,
         all-on (λ c. unitsWithin (c .list)) (clobNamed (has (setOf (unitExists sh))) (instCount sh)) (clobNamed (unitExists sh) (instCount sh))
             (λ c u. ap (λ (b : Bool). ltb (c .at) (instCount sh) && b) (all-setOf (unitExists sh) (c .list) (small unitLimit (omega arith) (c .list) u)))
-            (sh .clobs) (within sh w .small-clobbers),
+            (sh .clobs) (in-limits sh w .small-clobbers),
       )
 
 -- ---- nothing twice
@@ -210,30 +102,30 @@ edges-small sh l p = all-more (edgeNamed sh) (λ a. all (blockExists sh) (a .lis
 module _ (t : List ℕ) (w : withinLimits (sheetIn t) ≡ true) {b : Bool} where
   pub regs-once : Once t 1 3 b → b ≡ all (λ r. not (twice (r .units))) (sheetIn t .regs)
   unfolding unitsWithin
-  regs-once e = once (regs-are t) (λ a. a .units) 3 (λ r. refl) e unitLimit (omega arith) (within (sheetIn t) w .small-units)
+  regs-once e = once (regs-are t) (λ a. a .units) 3 (λ r. refl) e unitLimit (omega arith) (in-limits (sheetIn t) w .small-units)
 
   pub clobs-once : Once t 11 2 b → b ≡ all (λ r. not (twice (r .list))) (sheetIn t .clobs)
   unfolding unitsWithin listRow
-  clobs-once e = once (clobs-are t) (λ a. a .list) 2 (λ r. refl) e unitLimit (omega arith) (within (sheetIn t) w .small-clobbers)
+  clobs-once e = once (clobs-are t) (λ a. a .list) 2 (λ r. refl) e unitLimit (omega arith) (in-limits (sheetIn t) w .small-clobbers)
 
   module _ (m : allNamed (sheetIn t) ≡ true) where
     pub classes-once : Once t 2 3 b → b ≡ all (λ r. not (twice (r .members))) (sheetIn t .classes)
-    classes-once e = once (classes-are t) (λ a. a .members) 3 (λ r. refl) e _ (omega (arith, within (sheetIn t) w .few-regs)) (named (sheetIn t) m .classes)
+    classes-once e = once (classes-are t) (λ a. a .members) 3 (λ r. refl) e _ (omega (arith, in-limits (sheetIn t) w .few-regs)) (each-named (sheetIn t) m .classes)
 
     pub groups-once : Once t 3 3 b → b ≡ all (λ r. not (twice (r .regs))) (sheetIn t .groups)
     groups-once e =
-        once (groups-are t) (λ a. a .regs) 3 (λ r. refl) e (regCount (sheetIn t)) (omega (arith, within (sheetIn t) w .few-regs))
-        (all-more (groupNamed (sheetIn t)) (λ a. all (regExists (sheetIn t)) (a .regs)) (λ a p. and-right (classExists (sheetIn t) (a .class)) _ p) (sheetIn t .groups) (named (sheetIn t) m .groups))
+        once (groups-are t) (λ a. a .regs) 3 (λ r. refl) e (regCount (sheetIn t)) (omega (arith, in-limits (sheetIn t) w .few-regs))
+        (all-more (groupNamed (sheetIn t)) (λ a. all (regExists (sheetIn t)) (a .regs)) (λ a p. and-right (classExists (sheetIn t) (a .class)) _ p) (sheetIn t .groups) (each-named (sheetIn t) m .groups))
 
     pub vgroups-once : Once t 5 2 b → b ≡ all (λ g. not (twice g)) (sheetIn t .vgroups)
-    vgroups-once e = once (vgroups-are t) (λ a. a) 2 (λ r. refl) e _ (omega (arith, within (sheetIn t) w .few-values)) (named (sheetIn t) m .vgroups)
+    vgroups-once e = once (vgroups-are t) (λ a. a) 2 (λ r. refl) e _ (omega (arith, in-limits (sheetIn t) w .few-values)) (each-named (sheetIn t) m .vgroups)
 
     pub succs-once : Once t 7 2 b → b ≡ all (λ r. not (twice (r .list))) (sheetIn t .succs)
     unfolding listRow
     succs-once e =
-        once (succs-are t) (λ a. a .list) 2 (λ r. refl) e (blockCount (sheetIn t)) (omega (arith, within (sheetIn t) w .few-blocks)) (edges-small (sheetIn t) (sheetIn t .succs) (named (sheetIn t) m .succs))
+        once (succs-are t) (λ a. a .list) 2 (λ r. refl) e (blockCount (sheetIn t)) (omega (arith, in-limits (sheetIn t) w .few-blocks)) (edges-small (sheetIn t) (sheetIn t .succs) (each-named (sheetIn t) m .succs))
 
     pub preds-once : Once t 8 2 b → b ≡ all (λ r. not (twice (r .list))) (sheetIn t .preds)
     unfolding listRow
     preds-once e =
-        once (preds-are t) (λ a. a .list) 2 (λ r. refl) e (blockCount (sheetIn t)) (omega (arith, within (sheetIn t) w .few-blocks)) (edges-small (sheetIn t) (sheetIn t .preds) (named (sheetIn t) m .preds))
+        once (preds-are t) (λ a. a .list) 2 (λ r. refl) e (blockCount (sheetIn t)) (omega (arith, in-limits (sheetIn t) w .few-blocks)) (edges-small (sheetIn t) (sheetIn t .preds) (each-named (sheetIn t) m .preds))

@@ -92,7 +92,7 @@ fn ops_within(t: &[u32]) -> bool
 }
 
 // The instructions of all blocks, or one more than the limit where they pass it.
-pub fn inst_total(t: &[u32]) -> u32
+pub(crate) fn inst_total(t: &[u32]) -> u32
     ensures { λ r. ⌜ r ≡ cond (leb (instCount (sheetIn (now (t .entry)))) instLimit) (instCount (sheetIn (now (t .entry)))) (instLimit + 1) ⌝ }
 {
     let blocks = count(t, Kind::BLOCK);

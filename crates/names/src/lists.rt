@@ -7,7 +7,7 @@ ghost use Rattle.bits.specs.Sets.{has, setOf, setLimit};
 use bits::sets::NumberSet;
 
 // Each of them is below `limit`.
-pub fn all_below(list: &[u32], limit: u32) -> bool
+pub(crate) fn all_below(list: &[u32], limit: u32) -> bool
     ensures { λ r. ⌜ r ≡ all (λ x. ltb x limit) (now (list .entry)) ⌝ }
 {
     let mut i: usize = 0;
@@ -35,7 +35,7 @@ pub fn is_in(x: u32, list: &[u32]) -> bool
 }
 
 // One of them stands twice, where all are below `NumberSet::LIMIT`.
-pub fn stands_twice(list: &[u32]) -> bool
+pub(crate) fn stands_twice(list: &[u32]) -> bool
     ensures { λ r. ⌜ (all (λ x. ltb x setLimit) (now (list .entry)) ≡ true → r ≡ twice (now (list .entry))) ⌝ }
 {
     let mut seen = NumberSet::empty();
@@ -52,7 +52,7 @@ pub fn stands_twice(list: &[u32]) -> bool
 }
 
 // Each of them is in the set.
-pub fn all_in(list: &[u32], s: NumberSet) -> bool
+pub(crate) fn all_in(list: &[u32], s: NumberSet) -> bool
     ensures { λ r. ⌜ r ≡ all (has s) (now (list .entry)) ⌝ }
 {
     let mut i: usize = 0;

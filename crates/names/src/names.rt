@@ -28,6 +28,7 @@ use entity::forms::Place;
 use entity::numbers::Block;
 use entity::numbers::EditRow;
 use entity::numbers::OperandRow;
+use entity::numbers::ParamRow;
 use entity::numbers::PhysReg;
 use entity::numbers::RegClass;
 use entity::numbers::RegGroup;
@@ -307,8 +308,8 @@ fn preds_named(t: &[u32]) -> bool
     true
 }
 
-fn param_named(t: &[u32], n: u32) -> bool
-    ensures { λ x. ⌜ x ≡ paramNamed (sheetIn (now (t .entry))) (paramRow (sheetIn (now (t .entry))) n) ⌝ }
+fn param_named(t: &[u32], n: ParamRow) -> bool
+    ensures { λ x. ⌜ x ≡ paramNamed (sheetIn (now (t .entry))) (paramRow (sheetIn (now (t .entry))) (n .0)) ⌝ }
 {
     let p = param_at(t, n);
     let place = p.place;
@@ -322,7 +323,7 @@ fn params_named(t: &[u32]) -> bool
     let rows = count(t, Kind::PARAM);
     let mut n: u32 = 0;
     while n < rows {
-        if !param_named(t, n) {
+        if !param_named(t, ParamRow(n)) {
             return false;
         }
         n += 1;

@@ -1,4 +1,4 @@
--- The fields of row n of the operands, read off the table. Assumes nothing.
+-- For `kind_at`, `constraint_at` and `place_at`: the fields of row n of the operands, read off the table. Assumes nothing.
 use mathlib.Core.Path.{_≡_, refl, sym}
 use mathlib.Core.List.{List}
 use Prim.Native.Nat.{ℕ}

@@ -1,4 +1,4 @@
--- What is found of an operand: operand k of its instruction, and its class. Assumes nothing.
+-- For `operand`, `reused_class` and `class_for`: what is found of an operand: operand k of its instruction, and its class. Assumes nothing.
 use mathlib.Core.Path.{_≡_, refl, sym, ap, _∙_}
 use mathlib.Core.List.{List, [], _∷_}
 use mathlib.Core.Option.{Option, none, some, bind}
@@ -19,6 +19,7 @@ use Rattle.entity.specs.declared.numbers.RegClass.{RegClass}
 use Rattle.entity.specs.declared.numbers.OperandIndex.{OperandIndex}
 use Rattle.rules.specs.Sheet.{Sheet, OpRow}
 use Rattle.rules.specs.Accept.{operandsAt, operand, classOf, classFor}
+use Rattle.table.specs.Layout.{opIndex}
 use Rattle.table.specs.Sheet.{rowsAt, sheetIn}
 use Rattle.table.specs.Index.{rangeIn, Ready, before}
 use Rattle.table.specs.View.{opRow, operandOf}
@@ -36,7 +37,7 @@ use Rattle.operands.specs.declared.FoundClass.the-variants as FoundClass
 -- ---- operand k of an instruction
 
 -- the rows of the operands of instruction i, from the first to the last
-module _ {t : List ℕ} (g : Ready t) (i : ℕ) (r : Range) (e : r ≡ rangeIn t 54952 instLimit i) where
+module _ {t : List ℕ} (g : Ready t) (i : ℕ) (r : Range) (e : r ≡ rangeIn t opIndex instLimit i) where
   abbrev sh : Sheet
   sh = sheetIn t
 
@@ -46,7 +47,7 @@ module _ {t : List ℕ} (g : Ready t) (i : ℕ) (r : Range) (e : r ≡ rangeIn t
       rw (long-of (ops-are t))
       (by-lt i instLimit
       (λ h.
-      let q : 54952 + i + 1 ≡ 54952 + (i + 1) = omega arith in
+      let q : opIndex + i + 1 ≡ opIndex + (i + 1) = omega arith in
       let z : r .to ≡ before (i + 1) (rowsAt t 10) = ap (λ (x : Range). x .to) e ∙ rw (lt-ltb i instLimit h, q) (g .built .ops (i + 1) (omega arith)) in
       rw z (omega (arith, before-within (i + 1) (rowsAt t 10), rows-long t 10)))
       (λ h. let z : r .to ≡ 0 = ap (λ (x : Range). x .to) e ∙ rw (le-ltb i instLimit h) in rw z (omega arith)))
@@ -65,7 +66,7 @@ module _ {t : List ℕ} (g : Ready t) (i : ℕ) (r : Range) (e : r ≡ rangeIn t
   rows-past n h = rw (sub-eq-zero-of-le h)
 
 -- operand k of the instruction of o
-module _ {t : List ℕ} (g : Ready t) (o : OpRow) (k : ℕ) (r : Range) (e : r ≡ rangeIn t 54952 instLimit (o .at)) where
+module _ {t : List ℕ} (g : Ready t) (o : OpRow) (k : ℕ) (r : Range) (e : r ≡ rangeIn t opIndex instLimit (o .at)) where
   rows-many : length (operandsAt (sheetIn t) (o .at)) ≡ r .to - r .from
   rows-many = sym (ap length (rows-are g (o .at) r e)) ∙ length-take-le (r .to - r .from) (drop (r .from) (sheetIn t .ops)) (rw (length-drop (r .from) (sheetIn t .ops)) (omega (arith, within g (o .at) r e)))
 
@@ -81,7 +82,7 @@ module _ {t : List ℕ} (g : Ready t) (o : OpRow) (k : ℕ) (r : Range) (e : r �
       (ap (λ (l : List OpRow). getD l k o) (sym (rows-are g (o .at) r e)) ∙ getD-take (r .to - r .from) (drop (r .from) (sheetIn t .ops)) k o h ∙ getD-drop (r .from) (sheetIn t .ops) k o
       ∙ getD-any (sheetIn t .ops) (r .from + k) o _ (omega (arith, within g (o .at) r e))))
 
-module _ (t : List ℕ) (o : Operand) (k : ℕ) (r : Range) (e : r ≡ rangeIn t 54952 instLimit (o .at .0)) where
+module _ (t : List ℕ) (o : Operand) (k : ℕ) (r : Range) (e : r ≡ rangeIn t opIndex instLimit (o .at .0)) where
   pub operand-none : r .to - r .from ≤ k → Ready t → FoundOperand.Nothing ≡ operandFound (operand (sheetIn t) (asRow o) k)
   unfolding operandFound asRow
   operand-none h g = rw (operand-no g (asRow o) k r e h)

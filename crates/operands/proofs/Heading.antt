@@ -1,4 +1,5 @@
--- The group of a class that begins with a register: there is one at most, as no two groups share class and first register. Assumes nothing.
+-- For `headed_by` and `group_headed`: the group of a class that begins with a register. There is one at most, as no two groups share class and first
+-- register. Assumes nothing.
 use mathlib.Core.Path.{_≡_, refl, sym, ap, _∙_}
 use mathlib.Core.Bool.{Bool, true, false, not, _&&_}
 use mathlib.Core.List.{List, [], _∷_, flatMap, append-nil}

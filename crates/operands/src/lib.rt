@@ -73,7 +73,7 @@ pub fn operand(t: &[u32], o: Operand, k: OperandIndex) -> FoundOperand
 }
 
 // The class of a class constraint.
-pub fn class_of(c: Constraint) -> FoundClass
+fn class_of(c: Constraint) -> FoundClass
     ensures { λ x. ⌜ ((sh : Sheet) → x ≡ classFound (classOf sh c)) ⌝ }
 {
     match c {
@@ -84,7 +84,7 @@ pub fn class_of(c: Constraint) -> FoundClass
 }
 
 // The class of operand k of the instruction of an operand.
-pub fn reused_class(t: &[u32], o: Operand, k: OperandIndex) -> FoundClass
+fn reused_class(t: &[u32], o: Operand, k: OperandIndex) -> FoundClass
     ensures { λ x. ⌜ (Ready (now (t .entry)) → x ≡ classFound (reusedClass (sheetIn (now (t .entry))) (asRow o) (k .0))) ⌝ }
 {
     let FoundOperand::At(u) = operand(t, o, k) else {

@@ -13,9 +13,10 @@ ghost use Rattle.program.specs.Input.{FirstBytes};
 use answer::rows::render_refused;
 use drifthurdle::Outcome;
 use drifthurdle::clean;
+use entity::numbers::SheetByte;
 
 // One byte more than a sheet may have is read, so that a longer one is refused.
-const READ: usize = 65537;
+const READ: usize = SheetByte::LIMIT as usize + 1;
 
 // The answer's room.
 pub const ROOM: usize = 65536;

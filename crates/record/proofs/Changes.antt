@@ -1,4 +1,5 @@
--- What becomes of the record: by a store, by one change after the other, and by a loop over a list. Assumes nothing.
+-- What becomes of the record (`Becomes` of specs/Flat.antt), for src/steps.rt and the crates above: by a store, by one change after the other, and
+-- by a loop over a list. Assumes nothing.
 use mathlib.Core.Path.{_≡_, refl, _∙_, ap}
 use mathlib.Core.List.{List}
 use Prim.Native.Nat.{ℕ, _+_, _<_, _≤_}
@@ -6,8 +7,9 @@ use native.Mathlib.Omega.{arith}
 use lib.ListN.{length, getD, drop}
 use Rattle.laws.specs.Fold.{run}
 use Rattle.laws.proofs.Lists.{run-again, run-done}
-use Rattle.entity.specs.declared.record.Record.{Record}
-use Rattle.rules.specs.Record.{writeUnit, hold, store, defineIn, spillIn, noteUnit}
+use Rattle.entity.specs.Limits.{regLimit, slotLimit, unitLimit, valueLimit}
+use Rattle.rules.specs.Record.{Record, writeUnit, hold, store, defineIn, spillIn, noteUnit}
+use Rattle.record.specs.Layout.{definedAt, heldAt, notedRegAt, notedValueAt, spilledAt, storedAt, unitRegAt, unitValueAt}
 use Rattle.record.specs.Flat.{recordIn, changedIn, unitWritten, regHolds, slotHolds, definedBy, spilledBy, unitNoted, Long, Becomes}
 use Rattle.record.proofs.Sections.{change-length, unit-written, held-changed, slot-changed, defined-changed, spilled-changed, unit-noted}
 
@@ -20,24 +22,24 @@ module _ {a b : List ℕ} where
   pub writing : (u r v : ℕ) → b ≡ unitWritten u r v a → Long a → Becomes a b (writeUnit r v (recordIn a) u)
   writing u r v e l =
       by-store (unitWritten u r v a) (writeUnit r v (recordIn a) u)
-      (change-length (changedIn 0 128 u r a) 128 128 u v ∙ change-length a 0 128 u r) (unit-written a u r v) e
+      (change-length (changedIn unitRegAt unitLimit u r a) unitValueAt unitLimit u v ∙ change-length a unitRegAt unitLimit u r) (unit-written a u r v) e
 
   pub holding : (r v : ℕ) → b ≡ regHolds r v a → Long a → Becomes a b (hold r v (recordIn a))
-  holding r v e l = by-store (regHolds r v a) (hold r v (recordIn a)) (change-length a 256 128 r v) (held-changed a r v) e
+  holding r v e l = by-store (regHolds r v a) (hold r v (recordIn a)) (change-length a heldAt regLimit r v) (held-changed a r v) e
 
   pub storing : (t v : ℕ) → b ≡ slotHolds t v a → Long a → Becomes a b (store t v (recordIn a))
-  storing t v e l = by-store (slotHolds t v a) (store t v (recordIn a)) (change-length a 384 64 t v) (slot-changed a t v) e
+  storing t v e l = by-store (slotHolds t v a) (store t v (recordIn a)) (change-length a storedAt slotLimit t v) (slot-changed a t v) e
 
   pub defining : (d v : ℕ) → b ≡ definedBy v d a → Long a → Becomes a b (defineIn d v (recordIn a))
-  defining d v e l = by-store (definedBy v d a) (defineIn d v (recordIn a)) (change-length a 448 256 v d) (defined-changed a v d) e
+  defining d v e l = by-store (definedBy v d a) (defineIn d v (recordIn a)) (change-length a definedAt valueLimit v d) (defined-changed a v d) e
 
   pub spilling : (d v : ℕ) → b ≡ spilledBy v d a → Long a → Becomes a b (spillIn d v (recordIn a))
-  spilling d v e l = by-store (spilledBy v d a) (spillIn d v (recordIn a)) (change-length a 704 256 v d) (spilled-changed a v d) e
+  spilling d v e l = by-store (spilledBy v d a) (spillIn d v (recordIn a)) (change-length a spilledAt valueLimit v d) (spilled-changed a v d) e
 
   pub noting : (u : ℕ) → b ≡ unitNoted u a → Long a → Becomes a b (noteUnit (recordIn a) u)
   noting u e l =
       by-store (unitNoted u a) (noteUnit (recordIn a) u)
-      (change-length (changedIn 960 128 u _ a) 1088 128 u _ ∙ change-length a 960 128 u _) (unit-noted a u l) e
+      (change-length (changedIn notedRegAt unitLimit u _ a) notedValueAt unitLimit u _ ∙ change-length a notedRegAt unitLimit u _) (unit-noted a u l) e
 
 -- ---- one change after the other
 

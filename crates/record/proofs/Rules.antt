@@ -1,7 +1,7 @@
--- What each step's parts make of the record is what its rule says. Assumes nothing.
+-- What the parts of each function of src/steps.rt make of the record is what its rule in rules/specs/Record.antt says. Assumes nothing.
 use mathlib.Core.Path.{_≡_, refl, sym, _∙_, ap}
 use mathlib.Core.Bool.{Bool, true, false, cond, _||_}
-use mathlib.Core.List.{List, [], _∷_, map}
+use mathlib.Core.List.{List, map, map-id}
 use mathlib.Core.Option.{Option, none, some, Option·elim}
 use Prim.Native.Nat.{ℕ, _+_, _<_, _≤_}
 use native.Mathlib.Omega.{arith}
@@ -12,6 +12,7 @@ use borrow.Author.Tests.{lt-ltb, le-ltb, eq-eqb, ne-eqb}
 use Rattle.laws.specs.Fold.{run}
 use Rattle.laws.specs.Lists.{all}
 use Rattle.laws.proofs.Lists.{getD-any, MapTo, map-store}
+use Rattle.entity.specs.Limits.{regLimit, slotLimit, unitLimit, valueLimit}
 use Rattle.entity.specs.declared.numbers.PhysReg.{PhysReg}
 use Rattle.entity.specs.declared.numbers.SpillSlot.{SpillSlot}
 use Rattle.entity.specs.declared.numbers.Value.{Value}
@@ -25,6 +26,7 @@ use Rattle.table.specs.View.{slotFound}
 use Rattle.table.proofs.Loops.{all-false-in, all-next-in, all-end-in}
 use Rattle.table.specs.declared.view.FoundSlot.{FoundSlot}
 use Rattle.table.specs.declared.view.FoundSlot.the-variants as FoundSlot
+use Rattle.record.specs.Layout.{definedAt, heldAt, notedRegAt, notedValueAt, spilledAt, storedAt, unitRegAt, unitValueAt}
 use Rattle.record.specs.Flat.{section, recordIn, unitRegIn, unitValueIn, heldIn, notedRegIn, notedValueIn, unitWritten, regHolds, slotHolds, definedBy, spilledBy, Long, Becomes}
 use Rattle.record.proofs.Sections.{unit-reg-is, unit-value-is, held-is, noted-reg-is, noted-value-is}
 use Rattle.record.proofs.Changes.{writing, holding, storing, defining, spilling, becomes-same, after}
@@ -52,7 +54,7 @@ forgotten {a} {r = r} {v = v} u e f p q l =
 
 -- the test of one unit's last write
 abbrev pub isWrite : List ℕ → ℕ → ℕ → Bool
-isWrite a v w = eqb (getD (recordIn a .unitvalue) w absent) v
+isWrite a v w = eqb (getD (recordIn a .writes .value) w absent) v
 
 module _ (a us : List ℕ) (v k : ℕ) {x : ℕ} (e : x ≡ unitValueIn a (getD us k 0)) where
   pub not-written : (x ≡ v → ⊥) → k < length us → (Long a → all (isWrite a v) (drop k us) ≡ all (isWrite a v) us) → Long a → false ≡ all (isWrite a v) us
@@ -66,24 +68,20 @@ module _ (a us : List ℕ) (v k : ℕ) {x : ℕ} (e : x ≡ unitValueIn a (getD 
 pub all-written-is : (a us : List ℕ) (v k : ℕ) → length us ≤ k → (Long a → all (isWrite a v) (drop k us) ≡ all (isWrite a v) us) → Long a → true ≡ all (isWrite a v) us
 all-written-is a us v k h i l = sym (all-end-in (isWrite a v) 0 us k h) ∙ i l
 
--- ---- no register holds v: the table's entries from 256 to 384, one after the other
+-- ---- no register holds v: the table's entries from `heldAt` to `storedAt`, one after the other
 
 -- the entry at j, once it was passed
 abbrev pub passed : ℕ → ℕ → ℕ → ℕ
-passed v j x = cond (ltb j 256) x (cond (eqb x v) absent x)
+passed v j x = cond (ltb j heldAt) x (cond (eqb x v) absent x)
 
-pub drop-none : (v : ℕ) (a : List ℕ) → MapTo 0 (passed v) a 256 a
-drop-none v a = record { long = refl; done = λ j h. rw (lt-ltb j 256 h); rest = λ j h. refl }
+pub drop-none : (v : ℕ) (a : List ℕ) → MapTo 0 (passed v) a heldAt a
+drop-none v a = record { long = refl; done = λ j h. rw (lt-ltb j heldAt h); rest = λ j h. refl }
 
-pub drop-next : {a b : List ℕ} {y : ℕ} (v i : ℕ) → 256 ≤ i → i < 384 → y ≡ cond (eqb (getD b i 0) v) absent (getD b i 0) → (Long a → MapTo 0 (passed v) a i b) → Long a → MapTo 0 (passed v) a (i + 1) (set b i y)
+pub drop-next : {a b : List ℕ} {y : ℕ} (v i : ℕ) → heldAt ≤ i → i < storedAt → y ≡ cond (eqb (getD b i 0) v) absent (getD b i 0) → (Long a → MapTo 0 (passed v) a i b) → Long a → MapTo 0 (passed v) a (i + 1) (set b i y)
 drop-next {a} {b} {y} v i h k e p l =
-    let s : y ≡ passed v i (getD b i 0) = rw (le-ltb i 256 h) e in
+    let s : y ≡ passed v i (getD b i 0) = rw (le-ltb i heldAt h) e in
     let n : i < length a = omega arith in
     map-store 0 (passed v) a i b (p l) y s n
-
-map-same : (l : List ℕ) → map (λ x. x) l ≡ l
-map-same [] = refl
-map-same (x ∷ l) = ap (λ (m : List ℕ). x ∷ m) (map-same l)
 
 -- a list in the table whose entries are those of another under h
 section-by : (h : ℕ → ℕ) (a b : List ℕ) (at size : ℕ) → length b ≡ length a → ((j : ℕ) → at ≤ j → j < at + size → getD b j 0 ≡ h (getD a j 0)) → section b at size ≡ map h (section a at size)
@@ -97,21 +95,21 @@ section-by h a b at size n e =
     ∙ sym (ap h (getD-take size (drop at a) i 0 k ∙ getD-drop at a i 0)) ∙ sym (List·getD-map h (section a at size) i 0)
     ∙ getD-any (map h (section a at size)) i (h 0) 0 w)
 
-module _ (v : ℕ) (a b : List ℕ) (p : MapTo 0 (passed v) a 384 b) where
+module _ (v : ℕ) (a b : List ℕ) (p : MapTo 0 (passed v) a storedAt b) where
   -- a list before, and one behind
-  kept-before : (at size : ℕ) → at + size ≤ 256 → section b at size ≡ section a at size
+  kept-before : (at size : ℕ) → at + size ≤ heldAt → section b at size ≡ section a at size
   kept-before at size h =
       section-by (λ x. x) a b at size (p .long)
-      (λ j m k. let q : j < 256 = omega arith in p .done j (omega arith) ∙ rw (lt-ltb j 256 q))
-      ∙ map-same (section a at size)
+      (λ j m k. let q : j < heldAt = omega arith in p .done j (omega arith) ∙ rw (lt-ltb j heldAt q))
+      ∙ map-id (section a at size)
 
-  kept-behind : (at size : ℕ) → 384 ≤ at → section b at size ≡ section a at size
-  kept-behind at size h = section-by (λ x. x) a b at size (p .long) (λ j m k. p .rest j (omega arith)) ∙ map-same (section a at size)
+  kept-behind : (at size : ℕ) → storedAt ≤ at → section b at size ≡ section a at size
+  kept-behind at size h = section-by (λ x. x) a b at size (p .long) (λ j m k. p .rest j (omega arith)) ∙ map-id (section a at size)
 
-  held-dropped : section b 256 128 ≡ map (λ x. cond (eqb x v) absent x) (section a 256 128)
+  held-dropped : section b heldAt regLimit ≡ map (λ x. cond (eqb x v) absent x) (section a heldAt regLimit)
   held-dropped =
-      section-by (λ x. cond (eqb x v) absent x) a b 256 128 (p .long)
-      (λ j m k. p .done j (omega arith) ∙ rw (le-ltb j 256 m))
+      section-by (λ x. cond (eqb x v) absent x) a b heldAt regLimit (p .long)
+      (λ j m k. p .done j (omega arith) ∙ rw (le-ltb j heldAt m))
 
   dropped : Becomes a b (dropValue v (recordIn a))
   unfolding dropValue recordIn
@@ -119,18 +117,18 @@ module _ (v : ℕ) (a b : List ℕ) (p : MapTo 0 (passed v) a 384 b) where
       record {
         long = p .long;
         is = rw (
-          kept-before 0 128 (omega arith),
-          kept-before 128 128 (omega arith),
+          kept-before unitRegAt unitLimit (omega arith),
+          kept-before unitValueAt unitLimit (omega arith),
           held-dropped,
-          kept-behind 384 64 (omega arith),
-          kept-behind 448 256 (omega arith),
-          kept-behind 704 256 (omega arith),
-          kept-behind 960 128 (omega arith),
-          kept-behind 1088 128 (omega arith),
+          kept-behind storedAt slotLimit (omega arith),
+          kept-behind definedAt valueLimit (omega arith),
+          kept-behind spilledAt valueLimit (omega arith),
+          kept-behind notedRegAt unitLimit (omega arith),
+          kept-behind notedValueAt unitLimit (omega arith),
         );
       }
 
-pub drop-end : (v : ℕ) (a b : List ℕ) (i : ℕ) → i ≡ 384 → MapTo 0 (passed v) a i b → Becomes a b (dropValue v (recordIn a))
+pub drop-end : (v : ℕ) (a b : List ℕ) (i : ℕ) → i ≡ storedAt → MapTo 0 (passed v) a i b → Becomes a b (dropValue v (recordIn a))
 drop-end v a b i e p = dropped v a b (rw e at p)
 
 -- ---- home slots
@@ -238,7 +236,7 @@ module _ (sh : Sheet) where
     unfolding addBack
     no-note-added h l = rw (← noted-reg-is a l u, ← e, h) (becomes-same a)
 
-    module _ {v : ℕ} {us : List ℕ} {t : Bool} (h : r ≡ absent → ⊥) (f : v ≡ notedValueIn a u) (g : us ≡ unitsOf sh r) (q : Long a → t ≡ (eqb (length us) 1 || all (λ w. eqb (getD (recordIn a .unitvalue) w absent) v) us)) where
+    module _ {v : ℕ} {us : List ℕ} {t : Bool} (h : r ≡ absent → ⊥) (f : v ≡ notedValueIn a u) (g : us ≡ unitsOf sh r) (q : Long a → t ≡ (eqb (length us) 1 || all (λ w. eqb (getD (recordIn a .writes .value) w absent) v) us)) where
       pub added-back : {b : List ℕ} → t ≡ true → b ≡ regHolds r v a → Long a → Becomes a b (addBack sh (recordIn a) u)
       unfolding addBack
       added-back k p l =

@@ -42,7 +42,7 @@ pub fn holds(rec: &[u32; LENGTH], r: PhysReg, v: Value) -> bool
     held(rec, r) == v.0
 }
 
-pub fn take_from(rec: &mut [u32; LENGTH], r: PhysReg, v: Value)
+fn take_from(rec: &mut [u32; LENGTH], r: PhysReg, v: Value)
     ensures { λ _. ⌜ (Long (now (rec .entry)) → Becomes (now (rec .entry)) (now (rec .exit)) (Rule.takeFrom (r .0) (v .0) (recordIn (now (rec .entry))))) ⌝ }
 {
     if holds(rec, r, v) {
@@ -67,7 +67,7 @@ fn without(x: u32, v: u32) -> u32
 }
 
 // No register holds v.
-pub fn drop_value(rec: &mut [u32; LENGTH], v: Value)
+fn drop_value(rec: &mut [u32; LENGTH], v: Value)
     ensures { λ _. ⌜ (Long (now (rec .entry)) → Becomes (now (rec .entry)) (now (rec .exit)) (Rule.dropValue (v .0) (recordIn (now (rec .entry))))) ⌝ }
 {
     let mut i = HELD;
@@ -78,7 +78,7 @@ pub fn drop_value(rec: &mut [u32; LENGTH], v: Value)
     }
 }
 
-pub fn forget_units(rec: &mut [u32; LENGTH], us: &[u32])
+fn forget_units(rec: &mut [u32; LENGTH], us: &[u32])
     ensures { λ _. ⌜ (Long (now (rec .entry)) → Becomes (now (rec .entry)) (now (rec .exit)) (run Rule.forgetUnit (recordIn (now (rec .entry))) (now (us .entry)))) ⌝ }
 {
     let mut k: usize = 0;
@@ -99,7 +99,7 @@ pub fn write_units(rec: &mut [u32; LENGTH], us: &[u32], r: PhysReg, v: Value)
 }
 
 // Register r's units are forgotten, and then written with v.
-pub fn overwrite(t: &[u32], rec: &mut [u32; LENGTH], r: PhysReg, v: Value)
+fn overwrite(t: &[u32], rec: &mut [u32; LENGTH], r: PhysReg, v: Value)
     ensures { λ _. ⌜ (Long (now (rec .entry)) → Becomes (now (rec .entry)) (now (rec .exit)) (Rule.overwrite (sheetIn (now (t .entry))) (r .0) (v .0) (recordIn (now (rec .entry))))) ⌝ }
 {
     let us = units(t, r);
@@ -108,7 +108,7 @@ pub fn overwrite(t: &[u32], rec: &mut [u32; LENGTH], r: PhysReg, v: Value)
 }
 
 // v's home slot holds nothing.
-pub fn empty_home(t: &[u32], rec: &mut [u32; LENGTH], v: Value)
+fn empty_home(t: &[u32], rec: &mut [u32; LENGTH], v: Value)
     ensures { λ _. ⌜ (Long (now (rec .entry)) → Becomes (now (rec .entry)) (now (rec .exit)) (Rule.emptyHome (sheetIn (now (t .entry))) (v .0) (recordIn (now (rec .entry))))) ⌝ }
 {
     match home(t, v) {
@@ -179,7 +179,7 @@ pub fn arrive(t: &[u32], rec: &mut [u32; LENGTH], v: Value, to: Place)
     }
 }
 
-pub fn espill(t: &[u32], rec: &mut [u32; LENGTH], r: PhysReg)
+fn espill(t: &[u32], rec: &mut [u32; LENGTH], r: PhysReg)
     ensures { λ _. ⌜ (Long (now (rec .entry)) → Becomes (now (rec .entry)) (now (rec .exit)) (Rule.espill (sheetIn (now (t .entry))) (r .0) (recordIn (now (rec .entry))))) ⌝ }
 {
     let us = units(t, r);
@@ -204,7 +204,7 @@ fn write_back(rec: &mut [u32; LENGTH], u: RegUnit)
 
 // The last write of each unit is of v.
 fn all_written(rec: &[u32; LENGTH], us: &[u32], v: u32) -> bool
-    ensures { λ x. ⌜ (Long (now (rec .entry)) → x ≡ all (λ w. eqb (getD (recordIn (now (rec .entry)) .unitvalue) w Rule.absent) v) (now (us .entry))) ⌝ }
+    ensures { λ x. ⌜ (Long (now (rec .entry)) → x ≡ all (λ w. eqb (getD (recordIn (now (rec .entry)) .writes .value) w Rule.absent) v) (now (us .entry))) ⌝ }
 {
     let mut k: usize = 0;
     while k < us.len() {
@@ -218,7 +218,7 @@ fn all_written(rec: &[u32; LENGTH], us: &[u32], v: u32) -> bool
 
 // There is one unit, or the last write of each is of v.
 fn joins(rec: &[u32; LENGTH], us: &[u32], v: u32) -> bool
-    ensures { λ x. ⌜ (Long (now (rec .entry)) → x ≡ (eqb (length (now (us .entry))) 1 || all (λ w. eqb (getD (recordIn (now (rec .entry)) .unitvalue) w Rule.absent) v) (now (us .entry)))) ⌝ }
+    ensures { λ x. ⌜ (Long (now (rec .entry)) → x ≡ (eqb (length (now (us .entry))) 1 || all (λ w. eqb (getD (recordIn (now (rec .entry)) .writes .value) w Rule.absent) v) (now (us .entry)))) ⌝ }
 {
     if us.len() == 1 {
         return true;
@@ -261,7 +261,7 @@ fn add_all_back(t: &[u32], rec: &mut [u32; LENGTH], us: &[u32])
     }
 }
 
-pub fn ereload(t: &[u32], rec: &mut [u32; LENGTH], r: PhysReg)
+fn ereload(t: &[u32], rec: &mut [u32; LENGTH], r: PhysReg)
     ensures { λ _. ⌜ (Long (now (rec .entry)) → Becomes (now (rec .entry)) (now (rec .exit)) (Rule.ereload (sheetIn (now (t .entry))) (r .0) (recordIn (now (rec .entry))))) ⌝ }
 {
     let us = units(t, r);

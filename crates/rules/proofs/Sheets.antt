@@ -7,6 +7,7 @@ use mathlib.Core.Option.{Option, none, some, bind}
 use lib.ListN.{length}
 use borrow.Author.Tests.{le-leb, lt-leb}
 use Rattle.rules.proofs.Digits.{digits-of}
+use Rattle.rules.specs.Words.{Named}
 use Rattle.rules.specs.Rows.{cellsOf, sheetOk, rowsOf, reading}
 use Rattle.rules.specs.Sheets.{sheet, isSome, RowsRead}
 
@@ -21,3 +22,8 @@ over s h = rw lt-leb
 pub rows-read : RowsRead
 unfolding reading sheet isSome flatMap
 rows-read = record { answers = refl; worked = (refl, refl); cells = (refl, refl); digits = digits-of; at-most = at-most; over = over }
+
+-- each mark and each word, by its name
+pub named : Named
+unfolding reading
+named = record { by-word = refl; by-mark = refl }

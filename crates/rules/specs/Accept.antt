@@ -15,7 +15,7 @@ use Rattle.entity.specs.declared.forms.OperandKind.{OperandKind}
 use Rattle.entity.specs.declared.forms.OperandKind.the-variants.{Def, Use, EarlyDef, DefGroup, UseGroup, EarlyDefGroup, NonAllocatable}
 use Rattle.entity.specs.declared.forms.Edit.{Edit}
 use Rattle.entity.specs.declared.forms.Edit.the-variants.{Move, Remat, Espill, Ereload, Misplaced, Nothing}
-use Rattle.rules.specs.Sheet.{Sheet, RegRow, ClassRow, GroupRow, BlockRow, ListRow, ParamRow, OpRow, EditRow, regCount, blockCount, instCount, regRow, classRow, blockRow, homeOf, valuesOf, unitsOf, succsOf, predsOf, instsOf, is, subjectOf}
+use Rattle.rules.specs.Sheet.{Sheet, RegRow, ClassRow, GroupRow, BlockRow, ListRow, ParamRow, OpRow, EditRow, regCount, blockCount, instCount, regRow, classRow, blockRow, homeOf, valuesOf, unitsOf, succsOf, predsOf, instsOf, isUse, isUseGroup}
 
 -- ---- 2
 
@@ -211,6 +211,13 @@ samePlace (Reg r) (Slot s) = false
 samePlace (Slot s) (Reg r) = false
 samePlace (Slot s) (Slot t) = eqb (s .0) (t .0)
 
+-- "a `use` for `def` or `useg` for `defg`"
+unfoldable pub kindsMatch : OperandKind → OperandKind → Bool
+kindsMatch k u = elim k [ Def v ↦ isUse u | DefGroup g ↦ isUseGroup u | Use v ↦ false | EarlyDef v ↦ false | UseGroup g ↦ false | EarlyDefGroup g ↦ false | NonAllocatable ↦ false ]
+
+unfoldable pub isFixed : Constraint → Bool
+isFixed c = elim c [ Fixed r ↦ true | Class c ↦ false | Reuse k ↦ false ]
+
 module _ (sh : Sheet) where
   -- the operands of an instruction, in row order
   unfoldable pub operandsAt : ℕ → List OpRow
@@ -238,10 +245,7 @@ module _ (sh : Sheet) where
   -- "reuse on anything but `def` or `defg`, or not naming, in the same instruction, a `use` for `def` or `useg` for `defg`, either of class
   -- constraint and the same place"
   unfoldable pub reuseHolds : OpRow → OpRow → Bool
-  reuseHolds o u =
-      ((is "def" (o .kind) && is "use" (u .kind)) || (is "defg" (o .kind) && is "useg" (u .kind)))
-      && Option·elim (classOf (u .constraint)) false (λ c. true)
-      && samePlace (u .place) (o .place)
+  reuseHolds o u = kindsMatch (o .kind) (u .kind) && Option·elim (classOf (u .constraint)) false (λ c. true) && samePlace (u .place) (o .place)
 
   -- "fixed place anything but that register"
   unfoldable pub constraintHolds : OpRow → Bool
@@ -254,17 +258,19 @@ module _ (sh : Sheet) where
 
   -- "`fixed` without `f`"
   unfoldable pub fixedHolds : OpRow → Bool
-  fixedHolds o = not (is "fixed" (o .kind)) || elim (o .constraint) [ Class c ↦ false | Fixed r ↦ true | Reuse k ↦ false ]
+  fixedHolds o = elim (o .kind) [ NonAllocatable ↦ isFixed (o .constraint) | Def v ↦ true | Use v ↦ true | EarlyDef v ↦ true | DefGroup g ↦ true | UseGroup g ↦ true | EarlyDefGroup g ↦ true ]
 
   -- "whose first register begins no group of that class (for `u`, the reused operand's) with the value group's length"
   unfoldable pub beginsGroup : ℕ → ℕ → ℕ → Bool
   beginsGroup c r n = any (λ g. headedBy c r g && eqb (length (g .regs)) n) (sh .groups)
 
-  -- "group kind in a slot, with `f`, or .."
+  -- "group kind in a slot, with `f`, or ..": g is the value group
+  unfoldable pub groupAt : OpRow → ℕ → Bool
+  groupAt o g = elim (o .place) [ Reg r ↦ Option·elim (classFor o) false (λ c. beginsGroup c (r .0) (length (valuesOf sh g))) | Slot s ↦ false ]
+
   unfoldable pub groupHolds : OpRow → Bool
   groupHolds o =
-      not (is "defg" (o .kind) || is "useg" (o .kind) || is "earlyg" (o .kind))
-      || elim (o .place) [ Reg r ↦ Option·elim (classFor o) false (λ c. beginsGroup c (r .0) (length (valuesOf sh (subjectOf (o .kind))))) | Slot s ↦ false ]
+      elim (o .kind) [ DefGroup g ↦ groupAt o (g .0) | UseGroup g ↦ groupAt o (g .0) | EarlyDefGroup g ↦ groupAt o (g .0) | Def v ↦ true | Use v ↦ true | EarlyDef v ↦ true | NonAllocatable ↦ true ]
 
   unfoldable pub operandsHold : Bool
   operandsHold = all (λ o. constraintHolds o && fixedHolds o && groupHolds o) (sh .ops)

@@ -18,7 +18,7 @@ use Rattle.entity.specs.declared.forms.FoundLevel.{FoundLevel}
 use Rattle.entity.specs.declared.forms.FoundLevel.the-variants as Found
 use Rattle.entity.specs.declared.forms.Refusal.{Refusal}
 use Rattle.entity.specs.declared.forms.Refusal.the-variants.{Rows, Limits, Names, Blocks, Operands, Edits, Call, Room}
-use Rattle.rules.specs.Cells.{word, digitsOf, fieldOf}
+use Rattle.rules.specs.Cells.{word, digitsOf, fieldOf, regMark, slotMark}
 use Rattle.rules.specs.Text.{bytes}
 use Rattle.rules.specs.Rows.{rowsOf, lineOf, rowText}
 use Rattle.rules.specs.Sheet.{Sheet, OpRow, EditRow, sheetOf, instCount}
@@ -28,8 +28,8 @@ use Rattle.rules.specs.Sweep.{sweep}
 
 -- the cell of a place
 unfoldable pub placeCell : Place → ℕ
-placeCell (Reg r) = 200000 + r .0
-placeCell (Slot s) = 300000 + s .0
+placeCell (Reg r) = regMark + r .0
+placeCell (Slot s) = slotMark + s .0
 
 -- the cells of an edit after its instruction: kind, to, from, value
 unfoldable pub editCells : Edit → List ℕ
@@ -112,5 +112,8 @@ unfoldable pub printed : Answer → List ℕ
 printed (refused r) = lineOf (bytes "refused" ∷ digitsOf (refusalNumber r) ∷ [])
 printed (written text) = text
 
+abbrev pub programRoom : ℕ
+programRoom = 65536
+
 unfoldable pub program : List ℕ → List ℕ
-program input = printed (answer input 1 1 65536)
+program input = printed (answer input 1 1 programRoom)

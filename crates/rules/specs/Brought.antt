@@ -1,4 +1,4 @@
--- Document 01, *Brought on*, by walks forward, in its words.
+-- Document 01, *Brought on*, by walks forward, in its words: case by case, with nothing of the sweep's `target` and `reads`, so that "exactly" ties them.
 use mathlib.Core.Path.{_≡_}
 use mathlib.Core.Logic.{_⊎_}
 use mathlib.Core.List.{List, [], _∷_, _++_}
@@ -6,9 +6,13 @@ use Prim.Native.Nat.{ℕ}
 use lib.ListN.{drop}
 use Rattle.entity.specs.declared.forms.Place.{Place}
 use Rattle.entity.specs.declared.forms.Place.the-variants.{Reg, Slot}
-use Rattle.entity.specs.declared.forms.Edit.{Edit}
 use Rattle.entity.specs.declared.forms.Edit.the-variants.{Move, Remat, Espill, Ereload, Misplaced, Nothing}
-use Rattle.rules.specs.Function.{Inst, Op, edit, inst, Func, opsOf, In, SlotIn, IsWalk, along}
+use Rattle.rules.specs.Function.{Op, edit, inst, Func, opsOf, In, IsWalk, along}
+
+-- one of the places is slot s
+abbrev pub SlotIn : ℕ → List Place → Type 0
+SlotIn s [] = ⊥
+SlotIn s (p ∷ ps) = (p ≡ Slot (record { 0 = s })) ⊎ SlotIn s ps
 
 -- "content in slot s is read when an instruction uses s or an edit puts s into a register"
 abbrev pub ReadBy : Op → ℕ → Type 0

@@ -1,5 +1,5 @@
 -- Document 01, "Rows": a field as one number, its cell, and the text of a cell. The paper's sentences stand above what says them.
---   A number n is n; a word is 100000 and its place in `words`; r3 is 200003, s0 300000, c0 400000, f3 500003, u1 600001.
+--   A number n is n; a word is its mark and its place in `words`; r3 is the mark of registers and 3, and so on.
 use Prim.Native.Nat.{ℕ, zero, suc, _+_, _-_, _*_, _/_, _%_}
 use Prim.Native.Char.{code}
 use Prim.Native.String.{String}
@@ -11,6 +11,32 @@ use lib.ListN.{length, getD}
 use lib.Text.{eqt}
 use Rattle.laws.specs.Lists.{all}
 use Rattle.rules.specs.Text.{bytes, same}
+
+-- "at most five digits": a number is below this; what else a field is has a mark in its cell, and a number below this
+abbrev pub numberLimit : ℕ
+numberLimit = 100000
+
+-- the marks of words, of places, of constraints; every cell is below the end
+abbrev pub wordMark : ℕ
+wordMark = 100000
+
+abbrev pub regMark : ℕ
+regMark = 200000
+
+abbrev pub slotMark : ℕ
+slotMark = 300000
+
+abbrev pub classMark : ℕ
+classMark = 400000
+
+abbrev pub fixedMark : ℕ
+fixedMark = 500000
+
+abbrev pub reuseMark : ℕ
+reuseMark = 600000
+
+abbrev pub markEnd : ℕ
+markEnd = 700000
 
 -- the place, counted from k, of the first that passes the test
 unfoldable pub find : {A : Type 0} → (A → Bool) → ℕ → List A → Option ℕ
@@ -37,7 +63,7 @@ marks = bytes "rscfu"
 
 unfoldable pub markedOf : List ℕ → Option ℕ
 markedOf [] = none
-markedOf (b ∷ bs) = bind (find (eqb b) 2 marks) (λ k. Option·map (λ n. k * 100000 + n) (numberOf bs))
+markedOf (b ∷ bs) = bind (find (eqb b) 2 marks) (λ k. Option·map (λ n. k * numberLimit + n) (numberOf bs))
 
 -- The words, in 01's order: `-`, the kinds of row, the operand kinds, the edit kinds.
 unfoldable pub words : List String
@@ -49,15 +75,15 @@ words =
     ∷ []
 
 unfoldable pub wordOf : List ℕ → Option ℕ
-wordOf f = find (λ w. same f (bytes w)) 100000 words
+wordOf f = find (λ w. same f (bytes w)) wordMark words
 
 -- the cell of a field
 unfoldable pub cellOf : List ℕ → Option ℕ
 cellOf f = orElse (numberOf f) (orElse (markedOf f) (wordOf f))
 
--- the cell of one of the words (700000 is no cell)
+-- the cell of one of the words (`markEnd` is no cell)
 unfoldable pub word : String → ℕ
-word w = Option·getD (find (eqt w) 100000 words) 700000
+word w = Option·getD (find (eqt w) wordMark words) markEnd
 
 -- The other way: the digits of any n, no leading zero. As n / 10 is less than n, n + 1 calls are enough.
 unfoldable pub digitsIn : ℕ → ℕ → List ℕ
@@ -70,6 +96,6 @@ digitsOf n = digitsIn (n + 1) n
 -- the text of a cell
 unfoldable pub fieldOf : ℕ → List ℕ
 fieldOf c =
-    cond (ltb c 100000) (digitsOf c)
-    (cond (ltb c 200000) (bytes (getD words (c - 100000) ""))
-    (getD marks (c / 100000 - 2) 0 ∷ digitsOf (c % 100000)))
+    cond (ltb c numberLimit) (digitsOf c)
+    (cond (ltb c regMark) (bytes (getD words (c - wordMark) ""))
+    (getD marks (c / numberLimit - 2) 0 ∷ digitsOf (c % numberLimit)))

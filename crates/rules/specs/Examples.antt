@@ -62,6 +62,10 @@ c9 = like (define 0 (r 0) ∷ []) [] (move (s 0) (r 0)) (move (s 1) (s 0))
 abbrev pub c10 : Sheet
 c10 = like (define 0 (r 0) ∷ read 1 (s 0) ∷ []) [] (move (s 0) (r 0)) (move (s 0) (s 0))
 
+-- a spill that nothing reads
+abbrev pub spilt : Sheet
+spilt = like (define 0 (r 0) ∷ []) [] (Espill (record { 0 = 0 }) (record { 0 = 0 })) Nothing
+
 -- instruction 2 uses slot 0, defines slot 1 and clobbers unit 0
 abbrev pub last : Sheet
 last = like (define 0 (r 0) ∷ read 2 (s 0) ∷ define 2 (s 1) ∷ []) (record { at = 2; list = 0 ∷ [] } ∷ []) (move (s 0) (r 0)) Nothing
@@ -121,6 +125,8 @@ pub record Examples : Type 0 where
   -- C9 "both removed", C10 "both kept"
   pub both-removed : sweep c9 (start c9) .edits ≡ Nothing ∷ Nothing ∷ []
   pub both-kept : sweep c10 (start c10) .edits ≡ start c10 .edits
+  -- "Emergency edits stay"
+  pub spill-stays : sweep spilt (start spilt) .edits ≡ start spilt .edits
   -- what is in the slot after one turn of the loop is read at the next
   pub round : BroughtOn loop 1 1 0
   -- C10: what instruction 0 defines is in the slot at the end, and three instructions have run

@@ -8,28 +8,20 @@ use lib.ListN.{length, getD, set, replicate}
 use Rattle.laws.specs.First.{first}
 use Rattle.laws.specs.Fold.{run}
 use Rattle.laws.specs.Lists.{all, any, keep, isIn, from}
-use Rattle.entity.specs.Limits.{slotLimit, regLimit, unitLimit}
-use Rattle.entity.specs.declared.record.Record.{Record}
+use Rattle.entity.specs.Limits.{slotLimit, regLimit}
 use Rattle.entity.specs.declared.forms.Place.{Place}
 use Rattle.entity.specs.declared.forms.Place.the-variants.{Reg, Slot}
 use Rattle.entity.specs.declared.forms.Constraint.{Constraint}
 use Rattle.entity.specs.declared.forms.Constraint.the-variants.{Class, Fixed, Reuse}
+use Rattle.entity.specs.declared.forms.OperandKind.the-variants.{Def, Use, EarlyDef, DefGroup, UseGroup, EarlyDefGroup, NonAllocatable}
 use Rattle.entity.specs.declared.forms.Edit.{Edit}
 use Rattle.entity.specs.declared.forms.Edit.the-variants.{Move, Remat, Espill, Ereload, Misplaced, Nothing}
 use Rattle.entity.specs.declared.forms.Level.{Level}
 use Rattle.entity.specs.declared.forms.Level.the-variants.{Off, Local, Forward, Global}
 use Rattle.rules.specs.Text.{same}
-use Rattle.rules.specs.Sheet.{Sheet, OpRow, ParamRow, EditRow, GroupRow, regCount, blockCount, blockRow, classRow, valuesOf, unitsOf, isMemory, succsOf, predsOf, clobbersOf, instsOf, is, subjectOf}
+use Rattle.rules.specs.Sheet.{Sheet, OpRow, ParamRow, EditRow, GroupRow, regCount, blockCount, blockRow, classRow, valuesOf, unitsOf, isMemory, succsOf, predsOf, clobbersOf, instsOf, isUse, isEarly, subjectOf}
 use Rattle.rules.specs.Accept.{isEntry, headedBy, classFor, operandsAt}
-use Rattle.rules.specs.Record.{absent, recordOf, fresh, writeUnit, hold, store, spillIn, holds, forgetUnit, isHome, define, effect}
-
--- what is known as a block begins: the value of each register and of each slot
-pub record Known : Type 0 where
-  pub held : List ℕ
-  pub stored : List ℕ
-
-unfoldable pub nothing : Known
-nothing = record { held = replicate regLimit absent; stored = replicate slotLimit absent }
+use Rattle.rules.specs.Record.{Record, Known, absent, nothing, fresh, begins, writeUnit, spillIn, holds, forgetUnit, isHome, define, effect}
 
 -- "one `count` row: blocks_preprocessed_for_optimizer, optimized_redundant_reload, _move, _remat, _spill, optimized_reload_to_move,
 -- optimized_stack_use, eliminated_dead_spill, eliminated_dead_remat"
@@ -89,12 +81,12 @@ module _ (sh : Sheet) where
 
   -- ---- a block begins
 
-  -- "A new block empties the first three only, takes in the pairs handed to it (a register pair also as its units' last writes)"
+  -- "(a register pair also as its units' last writes)"
+  unfoldable pub writeHeld : List ℕ → Record → ℕ → Record
+  writeHeld held s r = let v = getD held r absent in cond (eqb v absent) s (run (writeUnit r v) s (unitsOf sh r))
+
   unfoldable pub takeIn : Known → Record → Record
-  takeIn k s =
-      run (λ t r. elim (eqb (getD (k .held) r absent) absent) [ true ↦ t | false ↦ run (writeUnit r (getD (k .held) r absent)) t (unitsOf sh r) ])
-      (recordOf (replicate unitLimit absent) (replicate unitLimit absent) (k .held) (k .stored) (s .defined) (s .spilled) (s .notedreg) (s .notedvalue))
-      (from 0 (regCount sh))
+  takeIn k s = run (writeHeld (k .held)) (begins k s) (from 0 (regCount sh))
 
   -- "then each of its parameter rows defines its value at its place"
   unfoldable pub enter : ℕ → Known → Record → Record
@@ -106,26 +98,32 @@ module _ (sh : Sheet) where
   unfoldable pub groupRegs : ℕ → ℕ → List ℕ
   groupRegs c r = flatMap (λ g. g .regs) (keep (headedBy c r) (sh .groups))
 
-  -- "Group definitions define member by member."
-  unfoldable pub members : OpRow → List (ℕ × Place)
-  members o =
+  -- "Group definitions define member by member.": the values of group g, each at its register of the group that o begins
+  unfoldable pub members : OpRow → ℕ → List (ℕ × Place)
+  members o g =
       elim (o .place) [
-        | Reg r ↦ zipWith (λ v q. (v, Reg (record { 0 = q }))) (valuesOf sh (subjectOf (o .kind))) (groupRegs (Option·getD (classFor sh o) 0) (r .0))
+        | Reg r ↦ zipWith (λ v q. (v, Reg (record { 0 = q }))) (valuesOf sh g) (groupRegs (Option·getD (classFor sh o) 0) (r .0))
         | Slot t ↦ []
       ]
 
-  -- the values that an operand defines, each at its place, if it is of one of the two kinds
-  unfoldable pub definesAs : Bool → Bool → OpRow → List (ℕ × Place)
-  definesAs one group o = cond one ((subjectOf (o .kind), o .place) ∷ []) (cond group (members o) [])
+  -- the values that an operand defines, each at its place; and those of early definitions, and of the others
+  unfoldable pub allDefs : OpRow → List (ℕ × Place)
+  allDefs o =
+      elim (o .kind) [
+        | Def v ↦ (v .0, o .place) ∷ []
+        | EarlyDef v ↦ (v .0, o .place) ∷ []
+        | DefGroup g ↦ members o (g .0)
+        | EarlyDefGroup g ↦ members o (g .0)
+        | Use v ↦ []
+        | UseGroup g ↦ []
+        | NonAllocatable ↦ []
+      ]
 
   abbrev pub earlyDefs : OpRow → List (ℕ × Place)
-  earlyDefs o = definesAs (is "early" (o .kind)) (is "earlyg" (o .kind)) o
+  earlyDefs o = cond (isEarly (o .kind)) (allDefs o) []
 
   abbrev pub otherDefs : OpRow → List (ℕ × Place)
-  otherDefs o = definesAs (is "def" (o .kind)) (is "defg" (o .kind)) o
-
-  abbrev pub allDefs : OpRow → List (ℕ × Place)
-  allDefs o = definesAs (is "def" (o .kind) || is "early" (o .kind)) (is "defg" (o .kind) || is "earlyg" (o .kind)) o
+  otherDefs o = cond (isEarly (o .kind)) [] (allDefs o)
 
   unfoldable pub defineAll : ℕ → List (ℕ × Place) → Record → Record
   defineAll b ds s = run (λ t d. define sh b (d .0) (d .1) t) s ds
@@ -156,7 +154,7 @@ module _ (sh : Sheet) where
   -- "Folding: a `use` in memory, class constraint, index not reused, gets the lowest non-memory class register holding v." "each fold stack_use"
   unfoldable pub foldTo : OpRow → ℕ → Record → Option ℕ
   foldTo o k s =
-      elim (is "use" (o .kind) && inMemory (o .place) && not (reused (o .at) k)) [
+      elim (isUse (o .kind) && inMemory (o .place) && not (reused (o .at) k)) [
         | true ↦ elim (o .constraint) [ Class c ↦ lowestHolding (λ r. isIn r (classRow sh (c .0) .members)) (subjectOf (o .kind)) s | Fixed r ↦ none | Reuse n ↦ none ]
         | false ↦ none
       ]
@@ -188,7 +186,7 @@ module _ (sh : Sheet) where
   -- "An edit to a register that already holds v, or a slot that does, is removed."
   unfoldable pub already : Place → ℕ → Record → Bool
   already (Reg r) v s = holds s (r .0) v
-  already (Slot t) v s = eqb (getD (s .stored) (t .0) absent) v
+  already (Slot t) v s = eqb (getD (s .known .stored) (t .0) absent) v
 
   unfoldable pub toHome : Place → ℕ → Bool
   toHome (Reg r) v = false
@@ -196,7 +194,7 @@ module _ (sh : Sheet) where
 
   -- "So is one to v's home slot if v's last spilled block dominates this one (and the slot is then not noted)"
   unfoldable pub spilledAbove : ℕ → Place → ℕ → Record → Bool
-  spilledAbove b to v s = let a = getD (s .spilled) v absent in toHome to v && not (eqb a absent) && dominates a b
+  spilledAbove b to v s = let a = getD (s .blocks .spilled) v absent in toHome to v && not (eqb a absent) && dominates a b
 
   -- "else that block becomes this one"
   unfoldable pub noteSpill : ℕ → Place → ℕ → Record → Record
@@ -256,18 +254,18 @@ module _ (sh : Sheet) where
   -- "The first state handed to successors takes all known pairs, but with a sole successor skips values whose defining block is not smaller
   -- than it; a value never defined counts as largest."
   unfoldable pub skips : List ℕ → Record → ℕ → Bool
-  skips succs s v = eqb (length succs) 1 && leb (getD succs 0 0) (getD (s .defined) v absent)
+  skips succs s v = eqb (length succs) 1 && leb (getD succs 0 0) (getD (s .blocks .defined) v absent)
 
   unfoldable pub firstState : List ℕ → Record → Known
   firstState succs s =
       let handed = map (λ v. cond (skips succs s v) absent v) in
-      record { held = handed (s .held); stored = handed (s .stored) }
+      record { held = handed (s .known .held); stored = handed (s .known .stored) }
 
   -- "Later arrivals take away pairs not now known"
-  unfoldable pub meet : Known → Record → Known
-  meet k s =
+  unfoldable pub meet : Known → Known → Known
+  meet k l =
       let both = zipWith (λ v x. cond (eqb v x) v absent) in
-      record { held = both (k .held) (s .held); stored = both (k .stored) (s .stored) }
+      record { held = both (k .held) (l .held); stored = both (k .stored) (l .stored) }
 
   unfoldable pub sameKnown : Known → Known → Bool
   sameKnown k l = same (k .held) (l .held) && same (k .stored) (l .stored)
@@ -278,7 +276,7 @@ module _ (sh : Sheet) where
       Option·elim (getD (h .states) t none)
       (record { states = set (h .states) t (some (firstState (succsOf sh b) s)); waiting = t ∷ h .waiting })
       (λ k.
-      let l = meet k s in
+      let l = meet k (s .known) in
       record { states = set (h .states) t (some l); waiting = cond (sameKnown k l) (h .waiting) (t ∷ h .waiting) })
 
   unfoldable pub handOn : ℕ → Record → Handed → Handed

@@ -8,8 +8,8 @@ use lib.ListN.{getD, drop}
 use Rattle.entity.specs.declared.forms.Place.{Place}
 use Rattle.entity.specs.declared.forms.Place.the-variants.{Reg, Slot}
 use Rattle.entity.specs.declared.forms.Edit.{Edit}
-use Rattle.entity.specs.declared.forms.Edit.the-variants.{Nothing}
-use Rattle.rules.specs.Sheet.{Sheet, OpRow, BlockRow, blockCount, succsOf, clobbersOf, instsOf, instsFrom, is}
+use Rattle.entity.specs.declared.forms.Edit.the-variants.{Move, Remat, Espill, Ereload, Misplaced, Nothing}
+use Rattle.rules.specs.Sheet.{Sheet, OpRow, BlockRow, blockCount, succsOf, clobbersOf, instsOf, instsFrom, isUse}
 use Rattle.rules.specs.Accept.{operandsAt}
 use Rattle.rules.specs.Forward.{indexed, allDefs, editsAt, blocks}
 
@@ -34,9 +34,43 @@ opsOf f b = getD (f .blocks) b []
 abbrev pub nextOf : Func → ℕ → List ℕ
 nextOf f b = getD (f .succs) b []
 
+-- the slot of a place, if it is one; the slots among places
 unfoldable pub slotOf : Place → List ℕ
 slotOf (Reg r) = []
 slotOf (Slot s) = s .0 ∷ []
+
+abbrev pub slotsOf : List Place → List ℕ
+slotsOf ps = flatMap slotOf ps
+
+-- What an operation writes: `into d` is a move or remat into slot d, which is removed where d is not wanted; `over ds` is any other operation, which
+-- stays, and the slots ds that it writes.
+pub data Target : Type 0 where
+  into : ℕ → Target
+  over : List ℕ → Target
+
+-- of an edit to a place
+abbrev pub toPlace : Place → Target
+toPlace (Reg r) = over []
+toPlace (Slot d) = into (d .0)
+
+abbrev pub target : Op → Target
+target (inst n) = over (slotsOf (n .defs))
+target (edit (Move to p v)) = toPlace to
+target (edit (Remat to v)) = toPlace to
+target (edit (Espill d r)) = over (d .0 ∷ [])
+target (edit (Ereload r q)) = over []
+target (edit (Misplaced to p)) = over []
+target (edit Nothing) = over []
+
+-- the slots that an operation reads
+abbrev pub reads : Op → List ℕ
+reads (inst n) = n .uses
+reads (edit (Move to p v)) = slotOf p
+reads (edit (Remat to v)) = []
+reads (edit (Espill d r)) = []
+reads (edit (Ereload r q)) = q .0 ∷ []
+reads (edit (Misplaced to p)) = []
+reads (edit Nothing) = []
 
 -- what stands in a block: rows of edits and instructions, by their numbers
 pub data Item : Type 0 where
@@ -53,7 +87,7 @@ module _ (sh : Sheet) where
     instOf i =
         record {
           number = i;
-          uses = flatMap (λ (x : ℕ × ℕ × OpRow). cond (is "use" (x .2 .kind)) (slotOf (getD places (x .1) (x .2 .place))) []) (indexed sh i);
+          uses = flatMap (λ (x : ℕ × ℕ × OpRow). cond (isUse (x .2 .kind)) (slotOf (getD places (x .1) (x .2 .place))) []) (indexed sh i);
           defs = map (λ (d : ℕ × Place). d .1) (flatMap (allDefs sh) (operandsAt sh i));
           clobbers = clobbersOf sh i;
         }
@@ -71,12 +105,6 @@ module _ (sh : Sheet) where
 abbrev pub In : ℕ → List ℕ → Type 0
 In x [] = ⊥
 In x (y ∷ ys) = (x ≡ y) ⊎ In x ys
-
--- one of the places is slot s
-abbrev pub SlotIn : ℕ → List Place → Type 0
-SlotIn s [] = ⊥
-SlotIn s (Reg r ∷ ps) = SlotIn s ps
-SlotIn s (Slot d ∷ ps) = (s ≡ d .0) ⊎ SlotIn s ps
 
 -- what is left of block b from position i on is os
 abbrev pub Left : Func → ℕ → ℕ → List Op → Type 0

@@ -1,5 +1,6 @@
 pub mod Text
 pub mod Cells
+pub mod Words
 pub mod Rows
 pub mod Sheet
 pub mod Accept

@@ -1,13 +1,12 @@
 -- Document 01, *Model of a run (added)*: "a unit holds a word, a slot a list of words. Parameters do nothing."
 use mathlib.Core.Path.{_≡_}
 use mathlib.Core.List.{List, [], _∷_, map}
-use Prim.Native.Nat.{ℕ, zero, suc}
+use Prim.Native.Nat.{ℕ, suc}
 use native.Mathlib.Decide.{ℕ-discrete}
 use Rattle.entity.specs.declared.forms.Place.{Place}
 use Rattle.entity.specs.declared.forms.Place.the-variants.{Reg, Slot}
-use Rattle.entity.specs.declared.forms.Edit.{Edit}
 use Rattle.entity.specs.declared.forms.Edit.the-variants.{Move, Remat, Espill, Ereload, Misplaced, Nothing}
-use Rattle.rules.specs.Function.{Inst, Op, edit, inst, In}
+use Rattle.rules.specs.Function.{Inst, Op, edit, inst, In, reads}
 
 -- the word of each unit and the words of each slot, and how many instructions have run
 pub record State : Type 0 where
@@ -96,18 +95,7 @@ unfoldable pub steps : Machine → List Op → State → List Step
 steps M [] st = record { op = edit Nothing; before = st } ∷ []
 steps M (o ∷ os) st = record { op = o; before = st } ∷ steps M os (step M o st)
 
--- the slots that an operation reads
-abbrev pub Reads : Op → ℕ → Type 0
-Reads (inst n) s = In s (n .uses)
-Reads (edit (Move to (Reg r) v)) s = ⊥
-Reads (edit (Move to (Slot q) v)) s = s ≡ q .0
-Reads (edit (Remat to v)) s = ⊥
-Reads (edit (Espill d r)) s = ⊥
-Reads (edit (Ereload r q)) s = s ≡ q .0
-Reads (edit (Misplaced to p)) s = ⊥
-Reads (edit Nothing) s = ⊥
-
 -- at each step all registers agree, and every slot that the operation of the second run reads there
 pub data Agree : List Step → List Step → Type 0 where
   done : Agree [] []
-  each : {x y : Step} {xs ys : List Step} → ((u : ℕ) → x .before .regs u ≡ y .before .regs u) → ((s : ℕ) → Reads (y .op) s → x .before .slots s ≡ y .before .slots s) → Agree xs ys → Agree (x ∷ xs) (y ∷ ys)
+  each : {x y : Step} {xs ys : List Step} → ((u : ℕ) → x .before .regs u ≡ y .before .regs u) → ((s : ℕ) → In s (reads (y .op)) → x .before .slots s ≡ y .before .slots s) → Agree xs ys → Agree (x ∷ xs) (y ∷ ys)

@@ -1,16 +1,15 @@
 -- Document 01, "The forward rules": the record, and what each event makes of it.
 -- "The record holds: which registers hold a value, the last (register, value) per unit, which slot holds its value, each value's defining block
--- and last spilled block." `held` has the value of each register, `stored` of each slot; `absent` stands where there is none.
-use mathlib.Core.Bool.{Bool, true, false, cond, not, _&&_, _||_}
-use mathlib.Core.List.{List, [], _∷_, map}
-use mathlib.Core.Option.{Option, none, some, Option·elim}
-use Prim.Native.Nat.{ℕ, zero, suc}
-use lib.Dec.{eqb, leb}
+-- and last spilled block." The first three are `writes` and `known`. `absent` stands where there is none.
+use mathlib.Core.Bool.{Bool, false, cond, not, _&&_, _||_}
+use mathlib.Core.List.{List, map}
+use mathlib.Core.Option.{Option·elim}
+use Prim.Native.Nat.{ℕ}
+use lib.Dec.{eqb}
 use lib.ListN.{length, getD, set, replicate}
 use Rattle.laws.specs.Fold.{run}
 use Rattle.laws.specs.Lists.{all}
 use Rattle.entity.specs.Limits.{slotLimit, regLimit, unitLimit, valueLimit}
-use Rattle.entity.specs.declared.record.Record.{Record}
 use Rattle.entity.specs.declared.forms.Place.{Place}
 use Rattle.entity.specs.declared.forms.Place.the-variants.{Reg, Slot}
 use Rattle.entity.specs.declared.forms.Edit.{Edit}
@@ -21,52 +20,83 @@ use Rattle.rules.specs.Sheet.{Sheet, unitsOf, homeOf}
 abbrev pub absent : ℕ
 absent = 65535
 
-abbrev pub recordOf : List ℕ → List ℕ → List ℕ → List ℕ → List ℕ → List ℕ → List ℕ → List ℕ → Record
-recordOf ur uv h t d p nr nv = record { unitreg = ur; unitvalue = uv; held = h; stored = t; defined = d; spilled = p; notedreg = nr; notedvalue = nv }
+-- the register and the value of each unit's last write; and of those that an `espill` noted
+pub record Writes : Type 0 where
+  pub reg : List ℕ
+  pub value : List ℕ
+
+-- what is known, and handed from block to block: the value of each register and of each slot
+pub record Known : Type 0 where
+  pub held : List ℕ
+  pub stored : List ℕ
+
+-- each value's defining block and last spilled block
+pub record Blocks : Type 0 where
+  pub defined : List ℕ
+  pub spilled : List ℕ
+
+pub record Record : Type 0 where
+  pub writes : Writes
+  pub known : Known
+  pub blocks : Blocks
+  pub notes : Writes
+
+abbrev pub noWrites : Writes
+noWrites = record { reg = replicate unitLimit absent; value = replicate unitLimit absent }
+
+unfoldable pub nothing : Known
+nothing = record { held = replicate regLimit absent; stored = replicate slotLimit absent }
 
 -- the record of a fresh walk
 unfoldable pub fresh : Record
-fresh =
-    let units = replicate unitLimit absent in
-    let values = replicate valueLimit absent in
-    recordOf units units (replicate regLimit absent) (replicate slotLimit absent) values values units units
+fresh = let l = replicate valueLimit absent in record { writes = noWrites; known = nothing; blocks = record { defined = l; spilled = l }; notes = noWrites }
 
--- ---- one entry changed
+-- ---- one group changed
 
--- the last write of unit u is of value v to register r
+-- unit u's write is of value v to register r
+abbrev pub setWrite : ℕ → ℕ → ℕ → Writes → Writes
+setWrite r v u w = record { reg = set (w .reg) u r; value = set (w .value) u v }
+
 abbrev pub writeUnit : ℕ → ℕ → Record → ℕ → Record
-writeUnit r v s u = recordOf (set (s .unitreg) u r) (set (s .unitvalue) u v) (s .held) (s .stored) (s .defined) (s .spilled) (s .notedreg) (s .notedvalue)
-
-abbrev pub withHeld : List ℕ → Record → Record
-withHeld h s = recordOf (s .unitreg) (s .unitvalue) h (s .stored) (s .defined) (s .spilled) (s .notedreg) (s .notedvalue)
-
--- register r holds v
-abbrev pub hold : ℕ → ℕ → Record → Record
-hold r v s = withHeld (set (s .held) r v) s
-
--- slot t holds v
-abbrev pub store : ℕ → ℕ → Record → Record
-store t v s = recordOf (s .unitreg) (s .unitvalue) (s .held) (set (s .stored) t v) (s .defined) (s .spilled) (s .notedreg) (s .notedvalue)
-
--- block b is v's defining block
-abbrev pub defineIn : ℕ → ℕ → Record → Record
-defineIn b v s = recordOf (s .unitreg) (s .unitvalue) (s .held) (s .stored) (set (s .defined) v b) (s .spilled) (s .notedreg) (s .notedvalue)
-
--- block b is v's last spilled block
-abbrev pub spillIn : ℕ → ℕ → Record → Record
-spillIn b v s = recordOf (s .unitreg) (s .unitvalue) (s .held) (s .stored) (s .defined) (set (s .spilled) v b) (s .notedreg) (s .notedvalue)
+writeUnit r v s u = record { writes = setWrite r v u (s .writes); known = s .known; blocks = s .blocks; notes = s .notes }
 
 -- unit u's last write is noted
 abbrev pub noteUnit : Record → ℕ → Record
 noteUnit s u =
-    recordOf (s .unitreg) (s .unitvalue) (s .held) (s .stored) (s .defined) (s .spilled)
-    (set (s .notedreg) u (getD (s .unitreg) u absent)) (set (s .notedvalue) u (getD (s .unitvalue) u absent))
+    let noted = setWrite (getD (s .writes .reg) u absent) (getD (s .writes .value) u absent) u (s .notes) in
+    record { writes = s .writes; known = s .known; blocks = s .blocks; notes = noted }
+
+abbrev pub withKnown : Known → Record → Record
+withKnown k s = record { writes = s .writes; known = k; blocks = s .blocks; notes = s .notes }
+
+-- register r holds v
+abbrev pub hold : ℕ → ℕ → Record → Record
+hold r v s = withKnown (record { held = set (s .known .held) r v; stored = s .known .stored }) s
+
+-- slot t holds v
+abbrev pub store : ℕ → ℕ → Record → Record
+store t v s = withKnown (record { held = s .known .held; stored = set (s .known .stored) t v }) s
+
+abbrev pub withBlocks : Blocks → Record → Record
+withBlocks c s = record { writes = s .writes; known = s .known; blocks = c; notes = s .notes }
+
+-- block b is v's defining block
+abbrev pub defineIn : ℕ → ℕ → Record → Record
+defineIn b v s = withBlocks (record { defined = set (s .blocks .defined) v b; spilled = s .blocks .spilled }) s
+
+-- block b is v's last spilled block
+abbrev pub spillIn : ℕ → ℕ → Record → Record
+spillIn b v s = withBlocks (record { defined = s .blocks .defined; spilled = set (s .blocks .spilled) v b }) s
 
 -- ---- the rules
 
+-- "A new block empties the first three only, takes in the pairs handed to it"
+abbrev pub begins : Known → Record → Record
+begins k s = record { writes = noWrites; known = k; blocks = s .blocks; notes = s .notes }
+
 -- register r holds v
 unfoldable pub holds : Record → ℕ → ℕ → Bool
-holds s r v = eqb (getD (s .held) r absent) v
+holds s r v = eqb (getD (s .known .held) r absent) v
 
 -- r is taken from v, if it holds v
 unfoldable pub takeFrom : ℕ → ℕ → Record → Record
@@ -74,11 +104,11 @@ takeFrom r v s = cond (holds s r v) (hold r absent s) s
 
 -- "*Forgetting a unit* takes away its last write and that register from that value."
 unfoldable pub forgetUnit : Record → ℕ → Record
-forgetUnit s u = writeUnit absent absent (takeFrom (getD (s .unitreg) u absent) (getD (s .unitvalue) u absent) s) u
+forgetUnit s u = writeUnit absent absent (takeFrom (getD (s .writes .reg) u absent) (getD (s .writes .value) u absent) s) u
 
 -- no register holds v
 unfoldable pub dropValue : ℕ → Record → Record
-dropValue v s = withHeld (map (λ x. cond (eqb x v) absent x) (s .held)) s
+dropValue v s = withKnown (record { held = map (λ x. cond (eqb x v) absent x) (s .known .held); stored = s .known .stored }) s
 
 module _ (sh : Sheet) where
   -- register r's units are forgotten, and then written with v
@@ -114,15 +144,15 @@ module _ (sh : Sheet) where
   -- a note is written back, if there is one
   unfoldable pub writeBack : Record → ℕ → Record
   writeBack s u =
-      let r = getD (s .notedreg) u absent in
-      cond (eqb r absent) s (writeUnit r (getD (s .notedvalue) u absent) s u)
+      let r = getD (s .notes .reg) u absent in
+      cond (eqb r absent) s (writeUnit r (getD (s .notes .value) u absent) s u)
 
   -- "adds a noted register where it has one unit or all its units' last writes are of that value"
   unfoldable pub addBack : Record → ℕ → Record
   addBack s u =
-      let r = getD (s .notedreg) u absent in
-      let v = getD (s .notedvalue) u absent in
-      cond (not (eqb r absent) && (eqb (length (unitsOf sh r)) 1 || all (λ w. eqb (getD (s .unitvalue) w absent) v) (unitsOf sh r))) (hold r v s) s
+      let r = getD (s .notes .reg) u absent in
+      let v = getD (s .notes .value) u absent in
+      cond (not (eqb r absent) && (eqb (length (unitsOf sh r)) 1 || all (λ w. eqb (getD (s .writes .value) w absent) v) (unitsOf sh r))) (hold r v s) s
 
   -- "*ereload* forgets those units, writes the notes back, and adds .."
   unfoldable pub ereload : ℕ → Record → Record

@@ -10,7 +10,8 @@ use lib.Dec.{eqb, leb, ltb}
 use lib.ListN.{length, getD}
 use Rattle.rules.specs.Text.{bytes, same}
 use Rattle.laws.specs.Lists.{all}
-use Rattle.rules.specs.Cells.{find, isDigit, decimal, noLeadingZero, numberOf, marks, markedOf, words, wordOf, cellOf, word, digitsIn, digitsOf, fieldOf}
+use Rattle.entity.specs.Limits.{byteLimit}
+use Rattle.rules.specs.Cells.{find, isDigit, decimal, noLeadingZero, numberOf, marks, markedOf, words, wordOf, cellOf, word, digitsIn, digitsOf, fieldOf, classMark, markEnd, numberLimit, regMark}
 
 -- In front of the rows that follow: a row that ends here, a field that ends here, and one byte more of the field at hand.
 unfoldable pub newRow : List (List (List ℕ)) → Option (List (List (List ℕ)))
@@ -54,12 +55,12 @@ pub data Field : Type 0 where
   _upTo_ : String → String → Field
 
 unfoldable pub fieldOk : Field → ℕ → Bool
-fieldOk number c = ltb c 100000
+fieldOk number c = ltb c numberLimit
 fieldOk flag c = ltb c 2
 fieldOk dash c = eqb c (word "-")
-fieldOk numberOrDash c = ltb c 100000 || eqb c (word "-")
-fieldOk place c = leb 200000 c && ltb c 400000
-fieldOk constraint c = leb 400000 c && ltb c 700000
+fieldOk numberOrDash c = ltb c numberLimit || eqb c (word "-")
+fieldOk place c = leb regMark c && ltb c classMark
+fieldOk constraint c = leb classMark c && ltb c markEnd
 fieldOk (only w) c = eqb c (word w)
 fieldOk (v upTo w) c = leb (word v) c && leb c (word w)
 
@@ -173,7 +174,7 @@ sheetOk (r ∷ rs) = eqb (kind r) (word "slots") && all rowOk (r ∷ rs) && pair
 
 -- 1: "sheet over 65,536 bytes, or broken rows"
 unfoldable pub rowsOf : List ℕ → Option (List (List ℕ))
-rowsOf s = cond (leb (length s) 65536) (bind (cellsOf s) (λ rows. cond (sheetOk rows) (some rows) none)) none
+rowsOf s = cond (leb (length s) byteLimit) (bind (cellsOf s) (λ rows. cond (sheetOk rows) (some rows) none)) none
 
 -- The other way: fields with commas between them and CR LF after them; and the bytes of a row of cells.
 unfoldable pub lineOf : List (List ℕ) → List ℕ

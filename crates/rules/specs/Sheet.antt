@@ -7,7 +7,6 @@ use Prim.Native.Nat.{ℕ, zero, suc, _+_, _-_}
 use Prim.Native.String.{String}
 use lib.Dec.{eqb, ltb}
 use lib.ListN.{length, getD, drop}
-use lib.Text.{eqt}
 use Rattle.laws.specs.Lists.{keep, from}
 use Rattle.entity.specs.declared.forms.Place.{Place}
 use Rattle.entity.specs.declared.forms.Place.the-variants.{Reg, Slot}
@@ -17,7 +16,7 @@ use Rattle.entity.specs.declared.forms.OperandKind.{OperandKind}
 use Rattle.entity.specs.declared.forms.OperandKind.the-variants.{Def, Use, EarlyDef, DefGroup, UseGroup, EarlyDefGroup, NonAllocatable}
 use Rattle.entity.specs.declared.forms.Edit.{Edit}
 use Rattle.entity.specs.declared.forms.Edit.the-variants.{Move, Remat, Espill, Ereload, Misplaced, Nothing}
-use Rattle.rules.specs.Cells.{word}
+use Rattle.rules.specs.Cells.{word, classMark, fixedMark, regMark, reuseMark, slotMark}
 
 -- `reg,r,memory,unit..`
 pub record RegRow : Type 0 where
@@ -91,14 +90,14 @@ maybe c = cond (eqb c (word "-")) none (some c)
 
 -- "Places: `r3`, `s0`."
 unfoldable pub placeOf : ℕ → Place
-placeOf c = cond (ltb c 300000) (Reg (record { 0 = c - 200000 })) (Slot (record { 0 = c - 300000 }))
+placeOf c = cond (ltb c slotMark) (Reg (record { 0 = c - regMark })) (Slot (record { 0 = c - slotMark }))
 
 -- "Constraints: `c0`, `f3`, `u1` (reuse of operand 1)."
 unfoldable pub constraintOf : ℕ → Constraint
 constraintOf c =
-    cond (ltb c 500000) (Class (record { 0 = c - 400000 }))
-    (cond (ltb c 600000) (Fixed (record { 0 = c - 500000 }))
-    (Reuse (record { 0 = c - 600000 })))
+    cond (ltb c fixedMark) (Class (record { 0 = c - classMark }))
+    (cond (ltb c reuseMark) (Fixed (record { 0 = c - fixedMark }))
+    (Reuse (record { 0 = c - reuseMark })))
 
 -- "Operand kinds: `def use early defg useg earlyg fixed`, the last being `NonAllocatable`, subject `-`."
 unfoldable pub kindOf : ℕ → ℕ → OperandKind
@@ -111,27 +110,19 @@ kindOf k v =
     (cond (eqb k (word "earlyg")) (EarlyDefGroup (record { 0 = v }))
     NonAllocatable)))))
 
--- the word and the subject of each kind
-unfoldable pub kindWord : OperandKind → String
-kindWord (Def v) = "def"
-kindWord (Use v) = "use"
-kindWord (EarlyDef v) = "early"
-kindWord (DefGroup g) = "defg"
-kindWord (UseGroup g) = "useg"
-kindWord (EarlyDefGroup g) = "earlyg"
-kindWord NonAllocatable = "fixed"
+-- a `use`; a `useg`; an early definition, `early` or `earlyg`
+unfoldable pub isUse : OperandKind → Bool
+isUse k = elim k [ Use v ↦ true | Def v ↦ false | EarlyDef v ↦ false | DefGroup g ↦ false | UseGroup g ↦ false | EarlyDefGroup g ↦ false | NonAllocatable ↦ false ]
 
-unfoldable pub is : String → OperandKind → Bool
-is w k = eqt (kindWord k) w
+unfoldable pub isUseGroup : OperandKind → Bool
+isUseGroup k = elim k [ UseGroup g ↦ true | Def v ↦ false | Use v ↦ false | EarlyDef v ↦ false | DefGroup g ↦ false | EarlyDefGroup g ↦ false | NonAllocatable ↦ false ]
 
+unfoldable pub isEarly : OperandKind → Bool
+isEarly k = elim k [ EarlyDef v ↦ true | EarlyDefGroup g ↦ true | Def v ↦ false | Use v ↦ false | DefGroup g ↦ false | UseGroup g ↦ false | NonAllocatable ↦ false ]
+
+-- the value or group that an operand names
 unfoldable pub subjectOf : OperandKind → ℕ
-subjectOf (Def v) = v .0
-subjectOf (Use v) = v .0
-subjectOf (EarlyDef v) = v .0
-subjectOf (DefGroup g) = g .0
-subjectOf (UseGroup g) = g .0
-subjectOf (EarlyDefGroup g) = g .0
-subjectOf NonAllocatable = 0
+subjectOf k = elim k [ Def v ↦ v .0 | Use v ↦ v .0 | EarlyDef v ↦ v .0 | DefGroup g ↦ g .0 | UseGroup g ↦ g .0 | EarlyDefGroup g ↦ g .0 | NonAllocatable ↦ 0 ]
 
 -- an emergency spill goes from a register to a slot, an emergency reload from a slot to a register; anything else is misplaced
 unfoldable pub espillOf : Place → Place → Edit

@@ -1,9 +1,62 @@
 // The rules of document 01 as definitions: read specs/ in the order of specs/Lib.antt, with document 01 beside it.
 // The functions do nothing: each contract is a theorem that guards the definitions, so that no check passes without it.
+ghost use mathlib.Core.Path.{_≡_};
+ghost use Rattle.rules.specs.Cells.{numberLimit, wordMark, regMark, slotMark, classMark, fixedMark, reuseMark, markEnd};
+ghost use Rattle.rules.specs.Words.{Named, dashWord, slotsWord, regWord, classWord, groupWord, valueWord, vgroupWord, blockWord, succWord, predWord, paramWord, opWord, clobWord, editWord, defWord, useWord, earlyWord, defgWord, usegWord, earlygWord, fixedWord, moveWord, rematWord, espillWord, ereloadWord, noneWord};
 ghost use Rattle.rules.specs.Examples.{Examples};
 ghost use Rattle.rules.specs.Readings.{Readings};
 ghost use Rattle.rules.specs.Sheets.{RowsRead};
 ghost use Rattle.rules.specs.Worked.{WorkedSheet};
+use entity::cells::Mark;
+use entity::cells::Number;
+use entity::cells::Word;
+
+// The marks of the code are those of the definitions.
+pub fn marks_agree()
+    ensures { λ _. do ⌜ (← ⟦Number::LIMIT⟧ .entry) ≡ numberLimit ⌝ }
+    ensures { λ _. do ⌜ (← ⟦Mark::WORD⟧ .entry) ≡ wordMark ⌝ }
+    ensures { λ _. do ⌜ (← ⟦Mark::REG⟧ .entry) ≡ regMark ⌝ }
+    ensures { λ _. do ⌜ (← ⟦Mark::SLOT⟧ .entry) ≡ slotMark ⌝ }
+    ensures { λ _. do ⌜ (← ⟦Mark::CLASS⟧ .entry) ≡ classMark ⌝ }
+    ensures { λ _. do ⌜ (← ⟦Mark::FIXED⟧ .entry) ≡ fixedMark ⌝ }
+    ensures { λ _. do ⌜ (← ⟦Mark::REUSE⟧ .entry) ≡ reuseMark ⌝ }
+    ensures { λ _. do ⌜ (← ⟦Mark::END⟧ .entry) ≡ markEnd ⌝ }
+{}
+
+// So are the words.
+pub fn words_agree()
+    ensures { λ _. do ⌜ (← ⟦Word::DASH⟧ .entry) ≡ dashWord ⌝ }
+    ensures { λ _. do ⌜ (← ⟦Word::SLOTS⟧ .entry) ≡ slotsWord ⌝ }
+    ensures { λ _. do ⌜ (← ⟦Word::REG⟧ .entry) ≡ regWord ⌝ }
+    ensures { λ _. do ⌜ (← ⟦Word::CLASS⟧ .entry) ≡ classWord ⌝ }
+    ensures { λ _. do ⌜ (← ⟦Word::GROUP⟧ .entry) ≡ groupWord ⌝ }
+    ensures { λ _. do ⌜ (← ⟦Word::VALUE⟧ .entry) ≡ valueWord ⌝ }
+    ensures { λ _. do ⌜ (← ⟦Word::VGROUP⟧ .entry) ≡ vgroupWord ⌝ }
+    ensures { λ _. do ⌜ (← ⟦Word::BLOCK⟧ .entry) ≡ blockWord ⌝ }
+    ensures { λ _. do ⌜ (← ⟦Word::SUCC⟧ .entry) ≡ succWord ⌝ }
+    ensures { λ _. do ⌜ (← ⟦Word::PRED⟧ .entry) ≡ predWord ⌝ }
+    ensures { λ _. do ⌜ (← ⟦Word::PARAM⟧ .entry) ≡ paramWord ⌝ }
+    ensures { λ _. do ⌜ (← ⟦Word::OP⟧ .entry) ≡ opWord ⌝ }
+    ensures { λ _. do ⌜ (← ⟦Word::CLOB⟧ .entry) ≡ clobWord ⌝ }
+    ensures { λ _. do ⌜ (← ⟦Word::EDIT⟧ .entry) ≡ editWord ⌝ }
+    ensures { λ _. do ⌜ (← ⟦Word::DEF⟧ .entry) ≡ defWord ⌝ }
+    ensures { λ _. do ⌜ (← ⟦Word::USE⟧ .entry) ≡ useWord ⌝ }
+    ensures { λ _. do ⌜ (← ⟦Word::EARLY⟧ .entry) ≡ earlyWord ⌝ }
+    ensures { λ _. do ⌜ (← ⟦Word::DEFG⟧ .entry) ≡ defgWord ⌝ }
+    ensures { λ _. do ⌜ (← ⟦Word::USEG⟧ .entry) ≡ usegWord ⌝ }
+    ensures { λ _. do ⌜ (← ⟦Word::EARLYG⟧ .entry) ≡ earlygWord ⌝ }
+    ensures { λ _. do ⌜ (← ⟦Word::FIXED⟧ .entry) ≡ fixedWord ⌝ }
+    ensures { λ _. do ⌜ (← ⟦Word::MOVE⟧ .entry) ≡ moveWord ⌝ }
+    ensures { λ _. do ⌜ (← ⟦Word::REMAT⟧ .entry) ≡ rematWord ⌝ }
+    ensures { λ _. do ⌜ (← ⟦Word::ESPILL⟧ .entry) ≡ espillWord ⌝ }
+    ensures { λ _. do ⌜ (← ⟦Word::ERELOAD⟧ .entry) ≡ ereloadWord ⌝ }
+    ensures { λ _. do ⌜ (← ⟦Word::NONE⟧ .entry) ≡ noneWord ⌝ }
+{}
+
+// Each mark and each word is the cell that the definitions find for it.
+pub fn cells_named()
+    ensures { λ _. ⌜ Named ⌝ }
+{}
 
 // Rows are read, or refused with 1, as the table of specs/Sheets.antt says.
 pub fn rows_read()

@@ -1,4 +1,4 @@
--- What is wanted at a position, from what is wanted at the block's end; and at the ends it is the smallest solution.
+-- For `Wanted` and `wantedAt` of rules/specs/Sweep.antt: what is wanted at a position, from what is wanted at the block's end; and at the ends it is the smallest solution.
 --     BackAll os A      wanted before all of os, where A is wanted after them
 --     wanted-back       what is wanted at a position is `BackAll` of what is wanted at the end
 --     end-closed        what is wanted at the ends is closed: what a block wants at its start is wanted at the end of each block that it follows
@@ -9,8 +9,8 @@ use mathlib.Core.Logic.{inl, inr, ⊎-elim, _↔_}
 use mathlib.Core.List.{List, [], _∷_}
 use Prim.Native.Nat.{ℕ, suc}
 use native.Mathlib.Omega.{arith}
-use Rattle.rules.specs.Function.{Op, Func, opsOf, nextOf, In, Left}
-use Rattle.rules.specs.Sweep.{Wanted, added, sent, from-next, wantedAt}
+use Rattle.rules.specs.Function.{Op, Func, opsOf, nextOf, In, Left, target, reads}
+use Rattle.rules.specs.Sweep.{Wanted, added, sent, from-next, wantedBefore, wantedAt}
 use Rattle.run.specs.Swept.{WantedAtEnd}
 use Rattle.run.proofs.Lists.{drop-next}
 use Rattle.run.proofs.Alike.{Back}
@@ -19,9 +19,9 @@ use Rattle.run.proofs.Sets.{before-back}
 
 abbrev pub BackAll : List Op → (ℕ → Type 0) → ℕ → Type 0
 BackAll [] A s = A s
-BackAll (o ∷ os) A s = Back o (BackAll os A) s
+BackAll (o ∷ os) A s = Back (target o) (reads o) (BackAll os A) s
 
-back-mono : (o : Op) (A B : ℕ → Type 0) → ((s : ℕ) → A s → B s) → (s : ℕ) → Back o A s → Back o B s
+back-mono : (o : Op) (A B : ℕ → Type 0) → ((s : ℕ) → A s → B s) → (s : ℕ) → Back (target o) (reads o) A s → Back (target o) (reads o) B s
 back-mono o A B h s = ⊎-elim inl (λ w. inr (w .0, h (w .0) (w .1), w .2))
 
 pub back-all-mono : (os : List Op) (A B : ℕ → Type 0) → ((s : ℕ) → A s → B s) → (s : ℕ) → BackAll os A s → BackAll os B s
@@ -29,10 +29,10 @@ back-all-mono [] A B h s a = h s a
 back-all-mono (o ∷ os) A B h s a = back-mono o (BackAll os A) (BackAll os B) (back-all-mono os A B h) s a
 
 pub at-back : (os : List Op) (A : List ℕ) (s : ℕ) → In s (wantedAt os A) ↔ BackAll os (λ e. In e A) s
-unfolding wantedAt
+unfolding wantedAt wantedBefore
 at-back [] A s = (λ h. h, λ h. h)
 at-back (o ∷ os) A s =
-    let e = before-back o (wantedAt os A) s in
+    let e = before-back (target o) (reads o) (wantedAt os A) s in
     let ih = at-back os A in (
       λ h. back-mono o (λ x. In x (wantedAt os A)) (BackAll os (λ x. In x A)) (λ x. ih x .0) s (e .0 h),
       λ h. e .1 (back-mono o (BackAll os (λ x. In x A)) (λ x. In x (wantedAt os A)) (λ x. ih x .1) s h),
@@ -40,7 +40,7 @@ at-back (o ∷ os) A s =
 
 module _ (f : Func) where
   -- what is wanted at a position has come one of the three ways
-  wanted-inv : {b i s : ℕ} → Wanted f b i s → (o : Op) (os : List Op) → Left f b i (o ∷ os) → Back o (Wanted f b (suc i)) s
+  wanted-inv : {b i s : ℕ} → Wanted f b i s → (o : Op) (os : List Op) → Left f b i (o ∷ os) → Back (target o) (reads o) (Wanted f b (suc i)) s
   wanted-inv (added {o = o′} l a) o os l′ = let q : o ≡ o′ = cc in rw q (inl a)
   wanted-inv (sent {e = e} {o = o′} l x w) o os l′ = let q : o ≡ o′ = cc in rw q (inr (e, w, x))
   wanted-inv (from-next l m w) o os l′ = let z : _≡_ {A = ℕ} 0 1 = cc in absurd (omega arith)

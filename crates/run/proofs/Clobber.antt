@@ -1,4 +1,4 @@
--- A clobbered unit that no operand defines gets its word from the supply: clobbers come first, and definitions write over them.
+-- For `clobbered_units` of src/lib.rt: a clobbered unit that no operand defines gets its word from the supply: clobbers come first, and definitions write over them.
 use mathlib.Core.Path.{_≡_, refl, sym, _∙_, ap}
 use mathlib.Core.Logic.{_⊎_, inl, inr, ⊎-elim}
 use mathlib.Core.List.{List, [], _∷_}

@@ -1,83 +1,116 @@
--- A slot is wanted exactly where its content is brought on.
---     adds-read, read-adds      the two ways to say that an operation reads a slot for good
+-- For rules/specs/Brought.antt and the sweep's exactness: a slot is wanted exactly where its content is brought on.
+--     adds-read                 the two ways to say that an operation reads a slot for good
+--     moves-moved, ends-lost    and that it moves content on, and that it ends it
 --     sends-goes, goes-sends    the two ways to say where content is after an operation
 --     wanted-brought            by induction on `Wanted`
 --     walk-wanted               by induction on the walk, and in it on a block's operations
-use mathlib.Core.Path.{_≡_, refl, sym}
+use mathlib.Core.Path.{_≡_, refl, sym, ap}
 use mathlib.Core.Logic.{inl, inr, ⊎-elim, _↔_}
-use mathlib.Core.List.{List, [], _∷_, _++_}
+use mathlib.Core.List.{List, [], _∷_, _++_, flatMap}
 use Prim.Native.Nat.{ℕ, suc}
 use lib.ListN.{drop}
 use native.Mathlib.Decide.{ℕ-discrete}
+use native.Mathlib.Omega.{arith}
+use Rattle.entity.specs.declared.forms.Place.{Place}
 use Rattle.entity.specs.declared.forms.Place.the-variants.{Reg, Slot}
 use Rattle.entity.specs.declared.forms.Edit.the-variants.{Move, Remat, Espill, Ereload, Misplaced, Nothing}
-use Rattle.rules.specs.Function.{Op, edit, inst, Func, opsOf, Left, IsWalk, stop, next, along}
+use Rattle.rules.specs.Function.{Op, edit, inst, Func, opsOf, slotOf, slotsOf, Target, into, over, target, reads, In, Left, IsWalk, stop, next, along}
 use Rattle.rules.specs.Sweep.{Adds, Takes, Moves, Sends, moves, stays, Wanted, added, sent, from-next}
-use Rattle.rules.specs.Brought.{ReadBy, Ends, MovesOn, GoesOn, moved, rests, ReadAlong, BroughtOn}
+use Rattle.rules.specs.Brought.{SlotIn, ReadBy, Ends, MovesOn, GoesOn, moved, rests, ReadAlong, BroughtOn}
 use Rattle.run.proofs.Lists.{drop-next, start, restOf}
 
-adds-read : (o : Op) (s : ℕ) → Adds o s ↔ ReadBy o s
+-- what `target` and `reads` say of an operation, and what document 01 says of it in words
+one : (s q : ℕ) → In s (q ∷ []) ↔ (s ≡ q)
+one s q = (⊎-elim (λ e. e) (λ x. absurd x), inl)
+
+abbrev numberOf : Place → ℕ
+numberOf (Reg r) = 0
+numberOf (Slot s) = s .0
+
+slot-in : (ps : List Place) (s : ℕ) → In s (slotsOf ps) ↔ SlotIn s ps
+unfolding flatMap slotOf
+slot-in [] s = (λ a. a, λ a. a)
+slot-in (Reg r ∷ ps) s =
+    let ih = slot-in ps s in
+    (λ a. inr (ih .0 a), ⊎-elim (λ q. let z : _≡_ {A = ℕ} 0 1 = cc in absurd (omega arith)) (ih .1))
+slot-in (Slot d ∷ ps) s =
+    let ih = slot-in ps s in
+    (⊎-elim (λ e. inl (ap (λ n. Slot (record { 0 = n })) (sym e))) (λ a. inr (ih .0 a)), ⊎-elim (λ q. inl (ap numberOf (sym q))) (λ a. inr (ih .1 a)))
+
+adds-read : (o : Op) (s : ℕ) → Adds (target o) (reads o) s ↔ ReadBy o s
+unfolding slotOf
+adds-read (inst n) s = (λ a. a, λ a. a)
 adds-read (edit (Move (Reg r) (Reg q) v)) s = (λ a. a, λ a. a)
-adds-read (edit (Move (Reg r) (Slot q) v)) s = (λ a. a, λ a. a)
-adds-read (edit (Move (Slot d) (Reg q) v)) s = (λ a. a, λ a. a)
-adds-read (edit (Move (Slot d) (Slot q) v)) s = (λ a. a, λ a. a)
-adds-read (edit (Remat p v)) s = (λ a. a, λ a. a)
+adds-read (edit (Move (Reg r) (Slot q) v)) s = one s (q .0)
+adds-read (edit (Move (Slot d) p v)) s = (λ a. a, λ a. a)
+adds-read (edit (Remat (Reg r) v)) s = (λ a. a, λ a. a)
+adds-read (edit (Remat (Slot d) v)) s = (λ a. a, λ a. a)
 adds-read (edit (Espill d r)) s = (λ a. a, λ a. a)
-adds-read (edit (Ereload r q)) s = (λ a. a, λ a. a)
+adds-read (edit (Ereload r q)) s = one s (q .0)
 adds-read (edit (Misplaced to p)) s = (λ a. a, λ a. a)
 adds-read (edit Nothing) s = (λ a. a, λ a. a)
-adds-read (inst n) s = (λ a. a, λ a. a)
 
--- what ends content in a slot takes the slot away
-ends-takes : (o : Op) (s : ℕ) → Ends o s → Takes o s
-ends-takes (inst n) s h = h
-ends-takes (edit (Move (Reg r) p v)) s h = h
-ends-takes (edit (Move (Slot t) (Reg r) v)) s h = h
-ends-takes (edit (Move (Slot t) (Slot q) v)) s h = h .0
-ends-takes (edit (Remat (Reg r) v)) s h = h
-ends-takes (edit (Remat (Slot t) v)) s h = h
-ends-takes (edit (Espill t r)) s h = h
-ends-takes (edit (Ereload r q)) s h = h
-ends-takes (edit (Misplaced to p)) s h = h
-ends-takes (edit Nothing) s h = h
+moves-moved : (o : Op) (e s : ℕ) → Moves (target o) (reads o) e s ↔ MovesOn o s e
+unfolding slotOf
+moves-moved (inst n) e s = (λ a. a, λ a. a)
+moves-moved (edit (Move (Reg r) p v)) e s = (λ a. a, λ a. a)
+moves-moved (edit (Move (Slot d) (Reg r) v)) e s = (λ a. a .1, λ a. absurd a)
+moves-moved (edit (Move (Slot d) (Slot q) v)) e s = (λ a. (one s (q .0) .0 (a .1), a .0), λ a. (a .1, inl (a .0)))
+moves-moved (edit (Remat (Reg r) v)) e s = (λ a. a, λ a. a)
+moves-moved (edit (Remat (Slot d) v)) e s = (λ a. a .1, λ a. absurd a)
+moves-moved (edit (Espill d r)) e s = (λ a. a, λ a. a)
+moves-moved (edit (Ereload r q)) e s = (λ a. a, λ a. a)
+moves-moved (edit (Misplaced to p)) e s = (λ a. a, λ a. a)
+moves-moved (edit Nothing) e s = (λ a. a, λ a. a)
 
--- the two tables of moves from slot to slot
-moves-on : (o : Op) (e s : ℕ) → Moves o e s ↔ MovesOn o s e
-moves-on (inst n) e s = (λ h. h, λ h. h)
-moves-on (edit (Move (Reg r) p v)) e s = (λ h. h, λ h. h)
-moves-on (edit (Move (Slot d) (Reg r) v)) e s = (λ h. h, λ h. h)
-moves-on (edit (Move (Slot d) (Slot q) v)) e s = (λ h. (h .1, h .0), λ h. (h .1, h .0))
-moves-on (edit (Remat p v)) e s = (λ h. h, λ h. h)
-moves-on (edit (Espill d r)) e s = (λ h. h, λ h. h)
-moves-on (edit (Ereload r q)) e s = (λ h. h, λ h. h)
-moves-on (edit (Misplaced to p)) e s = (λ h. h, λ h. h)
-moves-on (edit Nothing) e s = (λ h. h, λ h. h)
+-- content ends in a slot that is written, unless it is moved from there to there
+abbrev Lost : Target → List ℕ → ℕ → Type 0
+Lost (into d) rs s = (s ≡ d) × (In s rs → ⊥)
+Lost (over ds) rs s = In s ds
 
-sends-goes : (o : Op) (e s : ℕ) → Sends o e s → GoesOn o s e
-sends-goes o e s (moves m) = moved (moves-on o e s .0 m)
-sends-goes o e s (stays n q) = rests (λ x. n (rw q at (ends-takes o s x))) (sym q)
+ends-lost : (o : Op) (s : ℕ) → Ends o s ↔ Lost (target o) (reads o) s
+unfolding slotOf
+ends-lost (inst n) s = let w = slot-in (n .defs) s in (w .1, w .0)
+ends-lost (edit (Move (Reg r) p v)) s = (λ a. a, λ a. a)
+ends-lost (edit (Move (Slot d) (Reg r) v)) s = (λ a. (a, λ x. x), λ a. a .0)
+ends-lost (edit (Move (Slot d) (Slot q) v)) s = (λ a. (a .0, λ x. a .1 (one s (q .0) .0 x)), λ a. (a .0, λ x. a .1 (inl x)))
+ends-lost (edit (Remat (Reg r) v)) s = (λ a. a, λ a. a)
+ends-lost (edit (Remat (Slot d) v)) s = (λ a. (a, λ x. x), λ a. a .0)
+ends-lost (edit (Espill d r)) s = (inl, one s (d .0) .0)
+ends-lost (edit (Ereload r q)) s = (λ a. a, λ a. a)
+ends-lost (edit (Misplaced to p)) s = (λ a. a, λ a. a)
+ends-lost (edit Nothing) s = (λ a. a, λ a. a)
+
+in-or-not : (s : ℕ) (qs : List ℕ) → Dec (In s qs)
+in-or-not s [] = no (λ x. x)
+in-or-not s (q ∷ qs) = go (ℕ-discrete s q) (in-or-not s qs)
+  where
+    go : Dec (s ≡ q) → Dec (In s qs) → Dec (In s (q ∷ qs))
+    go (yes a) _ = yes (inl a)
+    go (no n) (yes a) = yes (inr a)
+    go (no n) (no m) = no (⊎-elim n m)
+
+lost-takes : (t : Target) (rs : List ℕ) (s : ℕ) → Lost t rs s → Takes t s
+lost-takes (into d) rs s h = h .0
+lost-takes (over ds) rs s h = h
+
+sends-goes : (o : Op) (e s : ℕ) → Sends (target o) (reads o) e s → GoesOn o s e
+sends-goes o e s (moves m) = moved (moves-moved o e s .0 m)
+sends-goes o e s (stays n q) = rests (λ x. n (rw q at (lost-takes (target o) (reads o) s (ends-lost o s .0 x)))) (sym q)
 
 -- content that does not end in s stays there, or is moved from s to s
-rests-sends : (o : Op) (s : ℕ) → (Ends o s → ⊥) → Sends o s s
-rests-sends (inst n) s h = stays h refl
-rests-sends (edit (Move (Reg r) p v)) s h = stays h refl
-rests-sends (edit (Move (Slot t) (Reg r) v)) s h = stays h refl
-rests-sends (edit (Move (Slot t) (Slot q) v)) s h = go (ℕ-discrete s (t .0)) (ℕ-discrete s (q .0))
+rests-sends : (t : Target) (rs : List ℕ) (s : ℕ) → (Lost t rs s → ⊥) → Sends t rs s s
+rests-sends (over ds) rs s h = stays h refl
+rests-sends (into d) rs s h = go (ℕ-discrete s d) (in-or-not s rs)
   where
-    go : Dec (s ≡ t .0) → Dec (s ≡ q .0) → Sends (edit (Move (Slot t) (Slot q) v)) s s
+    go : Dec (s ≡ d) → Dec (In s rs) → Sends (into d) rs s s
     go (no n) _ = stays n refl
     go (yes a) (yes c) = moves (a, c)
     go (yes a) (no n) = absurd (h (a, n))
-rests-sends (edit (Remat (Reg r) v)) s h = stays h refl
-rests-sends (edit (Remat (Slot t) v)) s h = stays h refl
-rests-sends (edit (Espill t r)) s h = stays h refl
-rests-sends (edit (Ereload r q)) s h = stays h refl
-rests-sends (edit (Misplaced to p)) s h = stays h refl
-rests-sends (edit Nothing) s h = stays h refl
 
-goes-sends : (o : Op) (s t : ℕ) → GoesOn o s t → Sends o t s
-goes-sends o s t (moved m) = moves (moves-on o t s .1 m)
-goes-sends o s t (rests n q) = rw q (rests-sends o s n)
+goes-sends : (o : Op) (s e : ℕ) → GoesOn o s e → Sends (target o) (reads o) e s
+goes-sends o s e (moved m) = moves (moves-moved o e s .1 m)
+goes-sends o s e (rests n q) = rw q (rests-sends (target o) (reads o) s (λ x. n (ends-lost o s .1 x)))
 
 module _ (f : Func) where
   wanted-brought : {b i s : ℕ} → Wanted f b i s → BroughtOn f b i s

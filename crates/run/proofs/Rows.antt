@@ -1,4 +1,4 @@
--- On rows: the function of the swept rows is the swept function.
+-- For `funcOf` of rules/specs/Function.antt, on rows: the function of the swept rows is the swept function.
 use mathlib.Core.Path.{_≡_, refl, sym, _∙_, ap}
 use mathlib.Core.List.{List, [], _∷_, map, flatMap}
 use Prim.Native.Nat.{ℕ, suc, _+_, _≤_}
@@ -6,13 +6,14 @@ use native.Mathlib.Omega.{arith}
 use lib.ListN.{length, drop, length-map, List·getD-eq-default}
 use Rattle.laws.specs.Lists.{from}
 use Rattle.laws.proofs.Cases.{by-lt}
+use Rattle.laws.proofs.Lists.{from-long}
 use Rattle.entity.specs.declared.forms.Place.{Place}
 use Rattle.entity.specs.declared.forms.Edit.{Edit}
 use Rattle.rules.specs.Sheet.{Sheet, BlockRow, blockCount, instsFrom}
 use Rattle.rules.specs.Function.{opsOf, Item, row, ins, items, instOf, look, funcOf}
 use Rattle.rules.specs.Sweep.{kept}
 use Rattle.run.specs.Swept.{SweptOps, end, then, Swept, stands, SweptRows}
-use Rattle.run.proofs.Lists.{drop-next, length-from, map-from}
+use Rattle.run.proofs.Lists.{drop-next, map-from}
 
 length-insts : (sh : Sheet) (i : ℕ) (bs : List BlockRow) → length (instsFrom sh i bs) ≡ length bs
 unfolding instsFrom
@@ -32,7 +33,7 @@ ops-look sh places es b =
     by-lt b (blockCount sh)
     (λ h. let e : 0 + b ≡ b = omega arith in rw e at (map-from (λ c. map (look sh places es) (items sh c)) [] 0 (blockCount sh) b h))
     (λ h.
-    let n : length (map (λ c. map (look sh places es) (items sh c)) (from 0 (blockCount sh))) ≤ b = simp (length-map, length-from) h in
+    let n : length (map (λ c. map (look sh places es) (items sh c)) (from 0 (blockCount sh))) ≤ b = simp (length-map, from-long) h in
     List·getD-eq-default (map (λ c. map (look sh places es) (items sh c)) (from 0 (blockCount sh))) [] n ∙ sym (ap (map (look sh places es)) (items-none sh b h)))
 
 module _ (sh : Sheet) (places : List Place) (es es′ : List Edit) (z : SweptRows sh places es es′) where

@@ -1,22 +1,22 @@
--- Over a walk, the run with the edits before the sweep and the run with those after it agree.
+-- For the sweep's safety (specs/Theorem.antt): over a walk, the run with the edits before the sweep and the run with those after it agree.
 use mathlib.Core.Path.{_≡_, refl, ap}
 use mathlib.Core.Logic.{⊎-elim}
 use mathlib.Core.List.{List, [], _∷_, _++_}
 use Prim.Native.Nat.{ℕ, suc}
-use Rattle.rules.specs.Function.{Op, Func, opsOf, Left, IsWalk, stop, next, along}
+use Rattle.rules.specs.Function.{Op, Func, opsOf, In, Left, IsWalk, stop, next, along, target, reads}
 use Rattle.rules.specs.Sweep.{Wanted, added, sent, from-next, SweptOp, removed, kept}
 use Rattle.run.specs.Swept.{SweptOps, end, then, Swept}
-use Rattle.rules.specs.Model.{State, Machine, step, steps, Reads, Agree, done, each}
+use Rattle.rules.specs.Model.{State, Machine, step, steps, Agree, done, each}
 use Rattle.run.proofs.Lists.{drop-next, start}
 use Rattle.run.proofs.Alike.{Back, Alike, alike-less, step-alike, gone-alike, reads-back}
 
-pub back-wanted : (f : Func) (b i : ℕ) (o : Op) (os : List Op) → Left f b i (o ∷ os) → (s : ℕ) → Back o (Wanted f b (suc i)) s → Wanted f b i s
+pub back-wanted : (f : Func) (b i : ℕ) (o : Op) (os : List Op) → Left f b i (o ∷ os) → (s : ℕ) → Back (target o) (reads o) (Wanted f b (suc i)) s → Wanted f b i s
 back-wanted f b i o os l s = ⊎-elim (λ a. added l a) (λ w. sent l (w .2) (w .1))
 
 module _ (M : Machine) (f g : Func) where
   -- what is shown of one step: what the second run reads agrees, and what is wanted after it
   abbrev Stepped : ℕ → ℕ → Op → Op → State → State → Type 0
-  Stepped b i o o′ st st′ = ((s : ℕ) → Reads o′ s → st .slots s ≡ st′ .slots s) × Alike (Wanted f b (suc i)) (step M o st) (step M o′ st′)
+  Stepped b i o o′ st st′ = ((s : ℕ) → In s (reads o′) → st .slots s ≡ st′ .slots s) × Alike (Wanted f b (suc i)) (step M o st) (step M o′ st′)
 
   safe-op : (b i : ℕ) (o o′ : Op) (os : List Op) (st st′ : State) → SweptOp f b i o o′ → Left f b i (o ∷ os) → Alike (Wanted f b i) st st′ → Stepped b i o o′ st st′
   safe-op b i o o′ os st st′ (removed s x n q) l h =
@@ -24,7 +24,7 @@ module _ (M : Machine) (f g : Func) where
       rw q (λ s x. absurd x, gone-alike M (Wanted f b (suc i)) st st′ o s x n h′)
   safe-op b i o o′ os st st′ (kept k q) l h =
       let h′ = alike-less (back-wanted f b i o os l) h in
-      rw q (λ s x. h′ .slots s (reads-back (Wanted f b (suc i)) o s k x), step-alike M (Wanted f b (suc i)) st st′ o h′)
+      rw q (λ s x. h′ .slots s (reads-back (Wanted f b (suc i)) (target o) (reads o) s k x), step-alike M (Wanted f b (suc i)) st st′ o h′)
 
   -- the rest of a block, with what follows it
   module _ (b : ℕ) (rs rs′ : List Op) (k : (i : ℕ) → Left f b i [] → (st st′ : State) → Alike (Wanted f b i) st st′ → Agree (steps M rs st) (steps M rs′ st′)) where

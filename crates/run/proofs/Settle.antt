@@ -1,4 +1,4 @@
--- The rounds of `ends` stop at the smallest solution, before their bound.
+-- For `ends` of rules/specs/Sweep.antt: its rounds stop at the smallest solution, before their bound.
 --     round-back     what one round finds at the end of a block
 --     gap            how many slots below the limit the blocks' ends lack: it falls at each round that goes on
 --     settle-ends    where the gap is below the rounds left, what the rounds give is what is wanted at the ends
@@ -13,15 +13,13 @@ use Rattle.laws.specs.Fold.{run}
 use Rattle.laws.specs.Lists.{all, isIn}
 use Rattle.laws.proofs.Cases.{by-bool, by-eq}
 use Rattle.entity.specs.Limits.{slotLimit}
-use Rattle.entity.specs.declared.forms.Place.the-variants.{Reg, Slot}
-use Rattle.entity.specs.declared.forms.Edit.the-variants.{Move, Remat, Espill, Ereload, Misplaced, Nothing}
-use Rattle.rules.specs.Function.{Op, edit, inst, Func, opsOf, nextOf, In}
+use Rattle.rules.specs.Function.{Op, Func, opsOf, nextOf, In, Target, into, over, target, reads}
 use Rattle.rules.specs.Sweep.{Adds, Moves, moves, stays, Wanted, added, sent, from-next, withAll, wantedAt, endsFrom, startsFrom, noMore, settle, ends}
-use Rattle.rules.specs.Model.{Reads}
 use Rattle.run.specs.Swept.{WantedAtEnd, ReadsWithin}
 use Rattle.run.specs.Theorem.{Agreement}
 use Rattle.run.proofs.Sets.{is-in, with-all-in}
 use Rattle.run.proofs.Back.{BackAll, back-all-mono, at-back, Closed, end-closed, end-least}
+use Rattle.run.proofs.Lists.{all-true}
 
 -- ---- one round
 
@@ -128,14 +126,6 @@ unfolding all
 all-false f [] e = let z : _≡_ {A = ℕ} 0 1 = cc in absurd (omega arith)
 all-false f (x ∷ B) e = by-bool (f x) (λ t. let w = all-false f B (rw t at e) in (w .0, inr (w .1), w .2)) (λ t. (x, inl refl, t))
 
-all-true : (f : ℕ → Bool) (B : List ℕ) → all f B ≡ true → (s : ℕ) → In s B → f s ≡ true
-unfolding all
-all-true f [] e s h = absurd h
-all-true f (x ∷ B) e s h =
-    by-bool (f x)
-    (λ t. ⊎-elim (λ q. rw q t) (all-true f B (rw t at e) s) h)
-    (λ t. let y : false ≡ true = rw t at e in let z : _≡_ {A = ℕ} 0 1 = cc in absurd (omega arith))
-
 -- each set of X is part of that of Y
 abbrev Grows : List (List ℕ) → List (List ℕ) → Type 0
 Grows X Y = (b s : ℕ) → In s (getD X b []) → In s (getD Y b [])
@@ -180,33 +170,18 @@ no-more (A ∷ X) (B ∷ Y) l e b s h =
 
 -- ---- the slots that are wanted are slots that an operation reads
 
-adds-reads : (o : Op) (s : ℕ) → Adds o s → Reads o s
-adds-reads (inst n) s h = h
-adds-reads (edit (Move (Reg r) (Reg q) v)) s h = h
-adds-reads (edit (Move (Reg r) (Slot q) v)) s h = h
-adds-reads (edit (Move (Slot d) (Reg q) v)) s h = h
-adds-reads (edit (Move (Slot d) (Slot q) v)) s h = absurd h
-adds-reads (edit (Remat p v)) s h = h
-adds-reads (edit (Espill d r)) s h = h
-adds-reads (edit (Ereload r q)) s h = h
-adds-reads (edit (Misplaced to p)) s h = h
-adds-reads (edit Nothing) s h = h
+adds-reads : (t : Target) (rs : List ℕ) (s : ℕ) → Adds t rs s → In s rs
+adds-reads (into d) rs s h = absurd h
+adds-reads (over ds) rs s h = h
 
-moves-reads : (o : Op) (e s : ℕ) → Moves o e s → Reads o s
-moves-reads (inst n) e s h = absurd h
-moves-reads (edit (Move (Reg r) p v)) e s h = absurd h
-moves-reads (edit (Move (Slot d) (Reg q) v)) e s h = h
-moves-reads (edit (Move (Slot d) (Slot q) v)) e s h = h .1
-moves-reads (edit (Remat p v)) e s h = h
-moves-reads (edit (Espill d r)) e s h = h
-moves-reads (edit (Ereload r q)) e s h = absurd h
-moves-reads (edit (Misplaced to p)) e s h = h
-moves-reads (edit Nothing) e s h = h
+moves-reads : (t : Target) (rs : List ℕ) (e s : ℕ) → Moves t rs e s → In s rs
+moves-reads (into d) rs e s h = h .1
+moves-reads (over ds) rs e s h = absurd h
 
 module _ (f : Func) (within : ReadsWithin f) where
   wanted-within : {b i s : ℕ} → Wanted f b i s → s < slotLimit
-  wanted-within (added {b = b} {i = i} {s = s} {o = o} {os = os} l a) = within b i s o os l (adds-reads o s a)
-  wanted-within (sent {b = b} {i = i} {e = e} {s = s} {o = o} {os = os} l (moves m) w) = within b i s o os l (moves-reads o e s m)
+  wanted-within (added {b = b} {i = i} {s = s} {o = o} {os = os} l a) = within b i s o os l (adds-reads (target o) (reads o) s a)
+  wanted-within (sent {b = b} {i = i} {e = e} {s = s} {o = o} {os = os} l (moves m) w) = within b i s o os l (moves-reads (target o) (reads o) e s m)
   wanted-within (sent l (stays n q) w) = rw q (wanted-within w)
   wanted-within (from-next l m w) = wanted-within w
 

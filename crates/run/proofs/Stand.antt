@@ -1,4 +1,4 @@
--- Each edit row stands at one position of one block.
+-- For `items` of rules/specs/Function.antt: each edit row stands at one position of one block.
 --     RowIn j l        row j is in l
 --     Fresh l          no row is twice in l
 --     rows-in, items-in, blocks-in          where a row is, by its instruction
@@ -14,15 +14,14 @@ use lib.ListN.{length, getD, drop}
 use lib.Seq.{drop-nil}
 use borrow.Author.Tests.{eqb-true, eq-eqb, ltb-true}
 use Rattle.laws.specs.Lists.{all, keep, from}
-use Rattle.laws.proofs.Cases.{by-lt}
+use Rattle.laws.proofs.Cases.{by-lt, and-parts}
 use Rattle.rules.specs.Sheet.{Sheet, BlockRow, EditRow, totalOf, instsFrom, instCount}
 use Rattle.rules.specs.Accept.{instExists, editNames}
 use Rattle.rules.specs.Forward.{editsAt}
 use Rattle.rules.specs.Function.{Item, row, ins, items, In}
+use Rattle.rules.proofs.Refusals.{all-named, each-named}
 use Rattle.run.specs.Swept.{Stands, stands, instructionOf}
 use Rattle.run.specs.Theorem.{StandOnce}
-use Rattle.run.proofs.Lists.{and-true}
-use Rattle.run.proofs.Within.{rows-named}
 
 -- ---- rows in a list of items
 
@@ -235,11 +234,11 @@ all-exist : (sh : Sheet) (es : List EditRow) → all (λ x. instExists sh (x .at
     → getD (map (λ x. x .at) es) j 0 < instCount sh
 unfolding all
 all-exist sh [] e j l = absurd (omega arith)
-all-exist sh (x ∷ es) e zero l = ltb-true (x .at) (instCount sh) (and-true (instExists sh (x .at)) (editNames sh (x .edit)) (and-true _ _ e .0) .0)
-all-exist sh (x ∷ es) e (suc j) l = all-exist sh es (and-true (instExists sh (x .at) && editNames sh (x .edit)) _ e .1) j (omega arith)
+all-exist sh (x ∷ es) e zero l = ltb-true (x .at) (instCount sh) (and-parts (instExists sh (x .at)) (editNames sh (x .edit)) (and-parts _ _ e .0) .0)
+all-exist sh (x ∷ es) e (suc j) l = all-exist sh es (and-parts (instExists sh (x .at) && editNames sh (x .edit)) _ e .1) j (omega arith)
 
 pub stand-once : StandOnce
 stand-once sh e j l =
-    let w = in-block sh j l (all-exist sh (sh .edits) (rows-named sh e .1) j l) in
+    let w = in-block sh j l (all-exist sh (sh .edits) (each-named sh (all-named sh e) .edits) j l) in
     let d = in-drop j (items sh (w .0)) (w .1) in
     (w .0, d .0, (stands (d .2), λ b′ i′ x. only sh j (w .0) (d .0) b′ i′ (stands (d .2)) x))

@@ -1,4 +1,4 @@
--- What is computed on rows is the sweep of the rows: each row is struck once, and by what is wanted after it.
+-- For `strikeBlocks` of rules/specs/Sweep.antt: what is computed on rows is the sweep of the rows: each row is struck once, and by what is wanted after it.
 use mathlib.Core.Path.{_≡_, refl, sym, _∙_, ap}
 use mathlib.Core.Logic.{_↔_, inl, inr}
 use mathlib.Core.Bool.{Bool, true, false, cond}
@@ -10,16 +10,16 @@ use lib.Seq.{drop-nil, getD-set-same, getD-set-other}
 use Rattle.laws.specs.Fold.{run}
 use Rattle.laws.specs.Lists.{from, isIn}
 use Rattle.laws.proofs.Cases.{by-lt, by-eq}
+use Rattle.laws.proofs.Lists.{from-long}
 use Rattle.entity.specs.declared.forms.Place.{Place}
-use Rattle.entity.specs.declared.forms.Place.the-variants.{Reg, Slot}
 use Rattle.entity.specs.declared.forms.Edit.{Edit}
-use Rattle.entity.specs.declared.forms.Edit.the-variants.{Move, Remat, Espill, Ereload, Misplaced, Nothing}
+use Rattle.entity.specs.declared.forms.Edit.the-variants.{Nothing}
 use Rattle.rules.specs.Sheet.{Sheet, blockCount}
-use Rattle.rules.specs.Function.{edit, Func, Item, row, ins, items, look, funcOf, Left}
-use Rattle.rules.specs.Sweep.{Into, Wanted, SweptOp, removed, kept, wantedAt, strike, strikeItems, strikeBlocks, sweep}
+use Rattle.rules.specs.Function.{edit, Func, Item, row, ins, items, look, funcOf, Left, Target, into, over, target}
+use Rattle.rules.specs.Sweep.{Into, Wanted, SweptOp, removed, kept, wantedAt, strikeBy, strike, strikeItems, strikeBlocks, sweep}
 use Rattle.run.specs.Swept.{Stands, stands}
 use Rattle.run.specs.Theorem.{WantedComputed, ComputedRows, OthersStay, SweepIs}
-use Rattle.run.proofs.Lists.{drop-next, length-from}
+use Rattle.run.proofs.Lists.{drop-next}
 use Rattle.run.proofs.Sets.{is-in}
 use Rattle.run.proofs.Back.{wanted-at}
 use Rattle.run.proofs.Settle.{agreement}
@@ -28,21 +28,18 @@ use Rattle.run.proofs.Stand.{RowIn, Fresh, no-cons, drop-in, in-drop, s
 
 -- ---- one edit
 
--- an edit into slot d, kept where the test holds
-struck : (f : Func) (b i : ℕ) (e : Edit) (d : ℕ) (c : Bool) → ((s : ℕ) → Into (edit e) s ↔ (s ≡ d)) → (c ≡ true) ↔ Wanted f b (suc i) d → SweptOp f b i (edit e) (edit (cond c e Nothing))
+-- an edit into slot d is kept where the test holds
+struck : (f : Func) (b i : ℕ) (e : Edit) (d : ℕ) (c : Bool) → ((s : ℕ) → Into (target (edit e)) s ↔ (s ≡ d)) → (c ≡ true) ↔ Wanted f b (suc i) d → SweptOp f b i (edit e) (edit (cond c e Nothing))
 struck f b i e d true t h = kept (λ s x. rw (t s .0 x) (h .0 refl)) refl
 struck f b i e d false t h = removed d (t d .1 refl) (λ w. let y = h .1 w in let z : _≡_ {A = ℕ} 0 1 = cc in absurd (omega arith)) refl
 
 edit-swept : (f : Func) (b i : ℕ) (e : Edit) (B : List ℕ) → ((s : ℕ) → (isIn s B ≡ true) ↔ Wanted f b (suc i) s) → SweptOp f b i (edit e) (edit (strike e B))
-unfolding strike
-edit-swept f b i (Move (Reg r) p v) B h = kept (λ s x. absurd x) refl
-edit-swept f b i (Move (Slot d) p v) B h = struck f b i (Move (Slot d) p v) (d .0) (isIn (d .0) B) (λ s. (λ x. x, λ x. x)) (h (d .0))
-edit-swept f b i (Remat (Reg r) v) B h = kept (λ s x. absurd x) refl
-edit-swept f b i (Remat (Slot d) v) B h = struck f b i (Remat (Slot d) v) (d .0) (isIn (d .0) B) (λ s. (λ x. x, λ x. x)) (h (d .0))
-edit-swept f b i (Espill d r) B h = kept (λ s x. absurd x) refl
-edit-swept f b i (Ereload r q) B h = kept (λ s x. absurd x) refl
-edit-swept f b i (Misplaced to p) B h = kept (λ s x. absurd x) refl
-edit-swept f b i Nothing B h = kept (λ s x. absurd x) refl
+unfolding strike strikeBy
+edit-swept f b i e B h = go (target (edit e)) (λ s. (λ x. x, λ x. x))
+  where
+    go : (t : Target) → ((s : ℕ) → Into (target (edit e)) s ↔ Into t s) → SweptOp f b i (edit e) (edit (strikeBy t e B))
+    go (into d) q = struck f b i e d (isIn d B) q (h d)
+    go (over ds) q = kept (λ s x. absurd (q s .0 x)) refl
 
 pub wanted-computed : WantedComputed
 wanted-computed f A ends b i os l s =
@@ -153,7 +150,7 @@ computed-rows sh places es A ends b i j (stands {l = r} q) =
 
 pub func-many : (sh : Sheet) (places : List Place) (es : List Edit) → length (funcOf sh places es .succs) ≤ length (funcOf sh places es .blocks)
 unfolding funcOf
-func-many sh places es = simp (length-map, length-from) (omega arith)
+func-many sh places es = simp (length-map, from-long) (omega arith)
 
 pub sweep-is : SweepIs
 unfolding sweep

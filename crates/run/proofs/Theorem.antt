@@ -1,4 +1,4 @@
--- The theorems.
+-- The theorems of specs/Theorem.antt on a function and on rows, out of Safe.antt, Exact.antt and Rows.antt.
 use mathlib.Core.Path.{_≡_, refl, sym, _∙_, ap, ap₂}
 use mathlib.Core.Logic.{_↔_}
 use mathlib.Core.List.{List, [], _∷_}
@@ -6,10 +6,12 @@ use Prim.Native.Nat.{ℕ, zero, suc, _+_}
 use native.Mathlib.Omega.{arith}
 use lib.ListN.{drop}
 use lib.Seq.{ext-getD}
-use Rattle.rules.specs.Function.{Op, edit, Func, funcOf}
+use Rattle.entity.specs.declared.forms.Place.the-variants.{Reg, Slot}
+use Rattle.entity.specs.declared.forms.Edit.the-variants.{Move, Remat, Espill, Ereload, Misplaced, Nothing}
+use Rattle.rules.specs.Function.{Op, edit, inst, Func, funcOf, target}
 use Rattle.rules.specs.Sweep.{Into, SweptOp, removed, kept}
 use Rattle.rules.specs.Brought.{BroughtOn}
-use Rattle.run.specs.Swept.{SweptOps, end, then, Removed}
+use Rattle.run.specs.Swept.{SweptOps, end, then, Removed, IntoSlot, by-move, by-remat}
 use Rattle.run.specs.Theorem.{Safe, Exact, Once, SafeRows, ExactRows, OnceRows}
 use Rattle.run.proofs.Exact.{wanted-is-brought}
 use Rattle.run.proofs.Safe.{safe-walk}
@@ -29,12 +31,28 @@ swept-at f b (then {i = j} {o = a} {o′ = a′} x xs) zero i q o o′ os os′ 
     rw (p, eo, eo′) x
 swept-at f b (then {i = j} x xs) (suc k) i q o o′ os os′ e e′ = swept-at f b xs k i (omega arith) o o′ os os′ e e′
 
-exact-op : (f : Func) (b i : ℕ) (o o′ : Op) → SweptOp f b i o o′ → (Removed o o′ ↔ ((s : ℕ) × Into o s × (BroughtOn f b (suc i) s → ⊥))) × ((Removed o o′ → ⊥) → o′ ≡ o)
+-- what `target` says of an operation, and what document 01 says of it in words
+into-slot : (o : Op) (s : ℕ) → Into (target o) s → IntoSlot o s
+into-slot (inst n) s x = absurd x
+into-slot (edit (Move (Reg r) p v)) s x = absurd x
+into-slot (edit (Move (Slot d) p v)) s x = by-move {p = p} {v = v} (rw x refl)
+into-slot (edit (Remat (Reg r) v)) s x = absurd x
+into-slot (edit (Remat (Slot d) v)) s x = by-remat {v = v} (rw x refl)
+into-slot (edit (Espill d r)) s x = absurd x
+into-slot (edit (Ereload r q)) s x = absurd x
+into-slot (edit (Misplaced to p)) s x = absurd x
+into-slot (edit Nothing) s x = absurd x
+
+slot-into : (o : Op) (s : ℕ) → IntoSlot o s → Into (target o) s
+slot-into o s (by-move q) = rw q refl
+slot-into o s (by-remat q) = rw q refl
+
+exact-op : (f : Func) (b i : ℕ) (o o′ : Op) → SweptOp f b i o o′ → (Removed o o′ ↔ ((s : ℕ) × IntoSlot o s × (BroughtOn f b (suc i) s → ⊥))) × ((Removed o o′ → ⊥) → o′ ≡ o)
 exact-op f b i o o′ (removed s x n q) =
     let r : Removed o o′ = (λ e. rw e at x, q) in
-    ((λ _. (s, x, λ c. n (wanted-is-brought f b (suc i) s .1 c)), λ _. r), λ m. absurd (m r))
+    ((λ _. (s, into-slot o s x, λ c. n (wanted-is-brought f b (suc i) s .1 c)), λ _. r), λ m. absurd (m r))
 exact-op f b i o o′ (kept k q) =
-    ((λ r. absurd (r .0 (sym q ∙ r .1)), λ w. absurd (w .2 (wanted-is-brought f b (suc i) (w .0) .0 (k (w .0) (w .1))))), λ _. q)
+    ((λ r. absurd (r .0 (sym q ∙ r .1)), λ w. absurd (w .2 (wanted-is-brought f b (suc i) (w .0) .0 (k (w .0) (slot-into o (w .0) (w .1)))))), λ _. q)
 
 pub exact : Exact
 exact f g z b i o o′ os os′ l l′ = exact-op f b i o o′ (swept-at f b (z .blocks b) i i (omega arith) o o′ os os′ l l′)

@@ -1,24 +1,25 @@
--- Of an accepted sheet every slot that an operation reads is below the limit, after the forward rules at every level too: they put only registers
+-- For `AcceptedWithin` of specs/Theorem.antt: of an accepted sheet every slot that an operation reads is below the limit, after the forward rules at every level too: they put only registers
 -- where they alter a place or a source.
 --     WalkIn w       every slot of the walk's places, and every slot that one of its edits reads, is below the limit
 --     optimise-in    the forward rules keep that
 --     reads-within   the function of such a walk reads slots below the limit
 --     walk-in        the walk of an accepted sheet is such
 use mathlib.Core.Path.{_≡_, sym, _∙_, ap}
-use mathlib.Core.Logic.{_⊎_, inl, inr, ⊎-elim}
+use mathlib.Core.Logic.{_⊎_, ⊎-elim}
 use mathlib.Core.Bool.{Bool, true, false, cond, _&&_, _||_}
-use mathlib.Core.List.{List, [], _∷_, _++_, map, flatMap, zip, zipWith}
+use mathlib.Core.List.{List, [], _∷_, map, flatMap, zip, zipWith}
 use mathlib.Core.Option.{Option, none, some, Option·elim}
 use Prim.Native.Nat.{ℕ, zero, suc, _≤_, _<_}
 use native.Mathlib.Omega.{arith}
-use lib.Dec.{eqb, leb}
+use lib.Dec.{eqb}
 use lib.ListN.{length, getD, set, drop}
 use lib.Seq.{drop-nil}
-use borrow.Author.Tests.{ltb-true, leb-true}
+use borrow.Author.Tests.{ltb-true}
 use Rattle.laws.specs.First.{first}
 use Rattle.laws.specs.Fold.{run}
 use Rattle.laws.specs.Lists.{all, keep, from, isIn}
-use Rattle.laws.proofs.Cases.{by-bool}
+use Rattle.laws.proofs.Cases.{by-bool, and-parts}
+use Rattle.laws.proofs.Lists.{run-keeps}
 use Rattle.entity.specs.Limits.{slotLimit}
 use Rattle.entity.specs.declared.forms.Place.{Place}
 use Rattle.entity.specs.declared.forms.Place.the-variants.{Reg, Slot}
@@ -26,22 +27,22 @@ use Rattle.entity.specs.declared.forms.Edit.{Edit}
 use Rattle.entity.specs.declared.forms.Edit.the-variants.{Move, Remat, Espill, Ereload, Misplaced, Nothing}
 use Rattle.entity.specs.declared.forms.Level.{Level}
 use Rattle.entity.specs.declared.forms.Level.the-variants.{Off, Local, Forward, Global}
-use Rattle.rules.specs.Sheet.{Sheet, OpRow, EditRow, blockCount, instsOf, succsOf, is}
-use Rattle.rules.specs.Accept.{withinLimits, instExists, regExists, classExists, valueExists, blockExists, slotExists, placeExists, subjectExists, constraintExists, editNames, allNamed, noneTwice, headsApart, namesHold}
-use Rattle.rules.specs.Record.{effect}
-use Rattle.rules.specs.Forward.{Known, Walk, Handed, withRec, count, stackUse, reloadToMove, indexed, foldTo, fold, optimiseInst, already, spilledAbove, noteSpill, removal, newSource, becomes, optimiseMove, optimiseEdit, editsAt, optimiseBlock, begun, blocks, forwardStart, forwardBlock, globalStart, visit, visits, mostVisits, optimiseAll, globalWalk, optimise, start, nothing}
-use Rattle.rules.specs.Function.{Op, edit, slotOf, Item, row, ins, items, instOf, look, funcOf, In}
-use Rattle.rules.specs.Model.{Reads}
+use Rattle.rules.specs.Sheet.{Sheet, OpRow, EditRow, blockCount, instsOf, succsOf, isUse}
+use Rattle.rules.specs.Accept.{withinLimits, instExists, regExists, valueExists, slotExists, placeExists, subjectExists, constraintExists, editNames, namesHold}
+use Rattle.rules.specs.Record.{Known, nothing, effect}
+use Rattle.rules.specs.Forward.{Walk, Handed, withRec, count, stackUse, reloadToMove, indexed, foldTo, fold, optimiseInst, already, spilledAbove, noteSpill, removal, newSource, becomes, optimiseMove, optimiseEdit, editsAt, optimiseBlock, begun, blocks, forwardStart, forwardBlock, globalStart, visit, visits, mostVisits, optimiseAll, globalWalk, optimise, start}
+use Rattle.rules.specs.Function.{Op, edit, slotOf, Item, row, ins, items, instOf, look, funcOf, In, reads}
+use Rattle.rules.proofs.Refusals.{in-limits, all-named, each-named}
 use Rattle.run.specs.Swept.{ReadsWithin, optimised}
 use Rattle.run.specs.Theorem.{AcceptedWithin}
-use Rattle.run.proofs.Lists.{and-true}
 use Rattle.run.proofs.Rows.{ops-look}
+use Rattle.run.proofs.Lists.{either}
 
 abbrev pub PlaceIn : Place → Type 0
 PlaceIn p = (s : ℕ) → In s (slotOf p) → s < slotLimit
 
 abbrev pub EditIn : Edit → Type 0
-EditIn e = (s : ℕ) → Reads (edit e) s → s < slotLimit
+EditIn e = (s : ℕ) → In s (reads (edit e)) → s < slotLimit
 
 abbrev pub WalkIn : Walk → Type 0
 WalkIn w = ((k : ℕ) (p : Place) → PlaceIn p → PlaceIn (getD (w .places) k p)) × ((j : ℕ) → EditIn (getD (w .edits) j Nothing))
@@ -54,11 +55,6 @@ set-keeps Q (a ∷ l) zero zero v d x y = x
 set-keeps Q (a ∷ l) zero (suc j) v d x y = y
 set-keeps Q (a ∷ l) (suc k) zero v d x y = y
 set-keeps Q (a ∷ l) (suc k) (suc j) v d x y = set-keeps Q l k j v d x y
-
-run-keeps : {S A : Type 0} (P : S → Type 0) (f : S → A → S) → ((s : S) (x : A) → P s → P (f s x)) → (l : List A) (s : S) → P s → P (run f s l)
-unfolding run
-run-keeps P f h [] s p = p
-run-keeps P f h (x ∷ l) s p = run-keeps P f h l (f s x) (h s x p)
 
 option-keeps : {S A : Type 0} (P : S → Type 0) (o : Option A) (a : S) (g : A → S) → P a → ((r : A) → P (g r)) → P (Option·elim o a g)
 unfolding Option·elim
@@ -83,7 +79,7 @@ module _ (sh : Sheet) where
   become-in j e w x v k = set-keeps EditIn (w .edits) j k e Nothing x (v .1 k)
 
   move-in : (b j : ℕ) (to : Place) (p : Option Place) (v : ℕ) (e : Edit) (w : Walk) → EditIn e → WalkIn w → WalkIn (optimiseMove sh b j to p v e w)
-  unfolding optimiseMove
+  unfolding optimiseMove slotOf
   move-in b j to p v e w x y =
       go (already sh to v (w .rec) || spilledAbove sh b to v (w .rec)) (Option·elim p none (λ q. newSource sh q v (noteSpill sh b to v (w .rec))))
     where
@@ -174,20 +170,19 @@ module _ (sh : Sheet) (few : sh .slots ≤ slotLimit) where
   place-in (Slot q) e s h = ⊎-elim (λ y. omega (arith, ltb-true (q .0) (sh .slots) e)) (λ y. absurd y) h
 
   names-in : (e : Edit) → editNames sh e ≡ true → EditIn e
-  unfolding editNames placeExists
-  names-in (Move to (Reg q) v) e s h = absurd h
-  names-in (Move to (Slot q) v) e s h = omega (arith, ltb-true (q .0) (sh .slots) (and-true (placeExists sh to) (slotExists sh (q .0)) (and-true (placeExists sh to && slotExists sh (q .0)) (valueExists sh (v .0)) e .0) .1))
+  unfolding editNames placeExists slotOf
+  names-in (Move to p v) e s h = place-in p (and-parts (placeExists sh to) (placeExists sh p) (and-parts (placeExists sh to && placeExists sh p) (valueExists sh (v .0)) e .0) .1) s h
   names-in (Remat to v) e s h = absurd h
   names-in (Espill d r) e s h = absurd h
-  names-in (Ereload r q) e s h = omega (arith, ltb-true (q .0) (sh .slots) (and-true (regExists sh (r .0)) (slotExists sh (q .0)) e .1))
+  names-in (Ereload r q) e s h = place-in (Slot q) (and-parts (regExists sh (r .0)) (slotExists sh (q .0)) e .1) s h
   names-in (Misplaced to p) e s h = absurd h
   names-in Nothing e s h = absurd h
 
   edits-in : (l : List EditRow) → all (λ e. instExists sh (e .at) && editNames sh (e .edit)) l ≡ true → (j : ℕ) → EditIn (getD (map (λ e. e .edit) l) j Nothing)
   unfolding all
   edits-in [] e j = λ s h. absurd h
-  edits-in (x ∷ l) e zero = names-in (x .edit) (and-true (instExists sh (x .at)) (editNames sh (x .edit)) (and-true _ _ e .0) .1)
-  edits-in (x ∷ l) e (suc j) = edits-in l (and-true (instExists sh (x .at) && editNames sh (x .edit)) _ e .1) j
+  edits-in (x ∷ l) e zero = names-in (x .edit) (and-parts (instExists sh (x .at)) (editNames sh (x .edit)) (and-parts _ _ e .0) .1)
+  edits-in (x ∷ l) e (suc j) = edits-in l (and-parts (instExists sh (x .at) && editNames sh (x .edit)) _ e .1) j
 
   -- ---- its operands
 
@@ -199,8 +194,8 @@ module _ (sh : Sheet) (few : sh .slots ≤ slotLimit) where
   rows-in [] e = tt
   rows-in (o ∷ l) e =
       let test = instExists sh (o .at) && subjectExists sh (o .kind) && constraintExists sh (o .constraint) in
-      let w = and-true (test && placeExists sh (o .place)) _ e in
-      (place-in (o .place) (and-true test (placeExists sh (o .place)) (w .0) .1), rows-in l (w .1))
+      let w = and-parts (test && placeExists sh (o .place)) _ e in
+      (place-in (o .place) (and-parts test (placeExists sh (o .place)) (w .0) .1), rows-in l (w .1))
 
   places-in : (l : List OpRow) → Each OpIn l → (k : ℕ) (p : Place) → PlaceIn p → PlaceIn (getD (map (λ o. o .place) l) k p)
   places-in [] h k p x = x
@@ -232,30 +227,26 @@ module _ (sh : Sheet) (few : sh .slots ≤ slotLimit) where
   unfolding indexed
   indexed-in h i = number-in _ _ (keep-in (λ (jo : ℕ × OpRow). eqb (jo .1 .at) i) (zip (from 0 (length (sh .ops))) (sh .ops)) (zip-in (sh .ops) (from 0 (length (sh .ops))) h))
 
-  either : (s : ℕ) (l m : List ℕ) → In s (l ++ m) → In s l ⊎ In s m
-  either s [] m h = inr h
-  either s (x ∷ l) m h = ⊎-elim (λ e. inl (inl e)) (λ y. ⊎-elim (λ a. inl (inr a)) inr (either s l m y)) h
-
   -- ---- its function
 
   module _ (rows : Each OpIn (sh .ops)) (places : List Place) (es : List Edit) (places-are : (k : ℕ) (p : Place) → PlaceIn p → PlaceIn (getD places k p)) (edits-are : (j : ℕ) → EditIn (getD es j Nothing)) where
-    uses-in : (l : List (ℕ × ℕ × OpRow)) → Each (λ (x : ℕ × ℕ × OpRow). OpIn (x .2)) l → (s : ℕ) → In s (flatMap (λ (x : ℕ × ℕ × OpRow). cond (is "use" (x .2 .kind)) (slotOf (getD places (x .1) (x .2 .place))) []) l) → s < slotLimit
+    uses-in : (l : List (ℕ × ℕ × OpRow)) → Each (λ (x : ℕ × ℕ × OpRow). OpIn (x .2)) l → (s : ℕ) → In s (flatMap (λ (x : ℕ × ℕ × OpRow). cond (isUse (x .2 .kind)) (slotOf (getD places (x .1) (x .2 .place))) []) l) → s < slotLimit
     unfolding flatMap
     uses-in [] h s y = absurd y
     uses-in (x ∷ l) h s y =
-        ⊎-elim (go (is "use" (x .2 .kind))) (uses-in l (h .1) s)
-        (either s (cond (is "use" (x .2 .kind)) (slotOf (getD places (x .1) (x .2 .place))) []) _ y)
+        ⊎-elim (go (isUse (x .2 .kind))) (uses-in l (h .1) s)
+        (either s (cond (isUse (x .2 .kind)) (slotOf (getD places (x .1) (x .2 .place))) []) _ y)
       where
         go : (c : Bool) → In s (cond c (slotOf (getD places (x .1) (x .2 .place))) []) → s < slotLimit
         go true y = places-are (x .1) (x .2 .place) (h .0) s y
         go false y = absurd y
 
-    item-in : (x : Item) (s : ℕ) → Reads (look sh places es x) s → s < slotLimit
+    item-in : (x : Item) (s : ℕ) → In s (reads (look sh places es x)) → s < slotLimit
     unfolding look instOf
     item-in (row j) s h = edits-are j s h
     item-in (ins i) s h = uses-in (indexed sh i) (indexed-in rows i) s h
 
-    left-in : (l : List Item) (i : ℕ) (o : Op) (os : List Op) → drop i (map (look sh places es) l) ≡ o ∷ os → (s : ℕ) → Reads o s → s < slotLimit
+    left-in : (l : List Item) (i : ℕ) (o : Op) (os : List Op) → drop i (map (look sh places es) l) ≡ o ∷ os → (s : ℕ) → In s (reads o) → s < slotLimit
     left-in [] i o os q s h = let z : _≡_ {A = ℕ} 0 1 = cc (drop-nil {A = Op} i) in absurd (omega arith)
     left-in (x ∷ l) zero o os q s h = let e : o ≡ look sh places es x = cc in item-in x s (rw e at h)
     left-in (x ∷ l) (suc i) o os q s h = left-in l i o os q s h
@@ -263,42 +254,15 @@ module _ (sh : Sheet) (few : sh .slots ≤ slotLimit) where
     reads-within : ReadsWithin (funcOf sh places es)
     reads-within b i s o os l h = left-in (items sh b) i o os (ap (drop i) (sym (ops-look sh places es b)) ∙ l) s h
 
--- what `allNamed` asks of the rows before the operands'
-abbrev before : Sheet → Bool
-before sh =
-    all (λ c. all (regExists sh) (c .members)) (sh .classes)
-    && all (λ g. classExists sh (g .class) && all (regExists sh) (g .regs)) (sh .groups)
-    && all (λ h. Option·elim h true (slotExists sh)) (sh .values)
-    && all (λ g. all (valueExists sh) g) (sh .vgroups)
-    && all (λ b. Option·elim (b .idom) true (blockExists sh)) (sh .blocks)
-    && all (λ s. blockExists sh (s .at) && all (blockExists sh) (s .list)) (sh .succs)
-    && all (λ p. blockExists sh (p .at) && all (blockExists sh) (p .list)) (sh .preds)
-    && all (λ p. blockExists sh (p .at) && valueExists sh (p .value) && placeExists sh (p .place)) (sh .params)
-
-and-last : (a b c d : Bool) → a && b && c && d ≡ true → (b ≡ true) × (d ≡ true)
-and-last a b c d e =
-    let w = and-true (a && b && c) d e in
-    (and-true a b (and-true (a && b) c (w .0) .0) .1, w .1)
-
--- 3, of the rows of the operands and of the edits
-pub rows-named : (sh : Sheet) → namesHold sh ≡ true
-    → (all (λ o. instExists sh (o .at) && subjectExists sh (o .kind) && constraintExists sh (o .constraint) && placeExists sh (o .place)) (sh .ops) ≡ true)
-    × (all (λ e. instExists sh (e .at) && editNames sh (e .edit)) (sh .edits) ≡ true)
-unfolding namesHold allNamed
-rows-named sh names =
-    and-last (before sh) _ _ _ (and-true (allNamed sh) (noneTwice sh) (and-true (allNamed sh && noneTwice sh) (headsApart (sh .groups)) names .0) .0)
-
 -- the operands of an accepted sheet, and its walk after the forward rules
 both-in : (sh : Sheet) (level : Level) → withinLimits sh ≡ true → namesHold sh ≡ true
     → (few : sh .slots ≤ slotLimit) × Each (OpIn sh few) (sh .ops) × WalkIn (optimised sh level)
-unfolding withinLimits start
+unfolding start
 both-in sh level limits names =
-    let few : sh .slots ≤ slotLimit =
-    by-bool (leb (sh .slots) slotLimit) (leb-true (sh .slots) slotLimit)
-    (λ e. let y : false ≡ true = rw e at limits in let z : _≡_ {A = ℕ} 0 1 = cc in absurd (omega arith)) in
-    let w = rows-named sh names in
-    let edits = edits-in sh few (sh .edits) (w .1) in
-    let rows = rows-in sh few (sh .ops) (w .0) in
+    let few = in-limits sh limits .few-slots in
+    let w = each-named sh (all-named sh names) in
+    let edits = edits-in sh few (sh .edits) (w .edits) in
+    let rows = rows-in sh few (sh .ops) (w .ops) in
     (few, rows, optimise-in sh level (start sh) (places-in sh few (sh .ops) rows, edits))
 
 pub walk-in : (sh : Sheet) (level : Level) → withinLimits sh ≡ true → namesHold sh ≡ true → WalkIn (optimised sh level)

@@ -7,16 +7,17 @@ use Prim.Native.Nat.{ℕ, suc, _<_}
 use lib.ListN.{length, getD, drop}
 use Rattle.laws.specs.Lists.{isIn}
 use Rattle.entity.specs.Limits.{slotLimit}
+use Rattle.entity.specs.declared.numbers.Value.{Value}
 use Rattle.entity.specs.declared.forms.Place.{Place}
 use Rattle.entity.specs.declared.forms.Place.the-variants.{Reg, Slot}
 use Rattle.entity.specs.declared.forms.Edit.{Edit}
-use Rattle.entity.specs.declared.forms.Edit.the-variants.{Nothing}
+use Rattle.entity.specs.declared.forms.Edit.the-variants.{Move, Remat, Nothing}
 use Rattle.entity.specs.declared.forms.Level.{Level}
 use Rattle.rules.specs.Sheet.{Sheet}
 use Rattle.rules.specs.Forward.{Walk, optimise, start}
-use Rattle.rules.specs.Function.{Op, edit, Func, opsOf, nextOf, Item, row, items, funcOf, In, Left}
+use Rattle.rules.specs.Function.{Op, edit, Func, opsOf, nextOf, Item, row, items, funcOf, In, Left, reads}
 use Rattle.rules.specs.Sweep.{Wanted, SweptOp, sweep}
-use Rattle.rules.specs.Model.{Machine, Reads}
+use Rattle.rules.specs.Model.{Machine}
 
 -- os′ are the operations os, from position i of block b on, swept
 pub data SweptOps (f : Func) (b : ℕ) : ℕ → List Op → List Op → Type 0 where
@@ -32,6 +33,11 @@ pub record Swept (f g : Func) : Type 0 where
 -- an operation stood where now there is none
 abbrev pub Removed : Op → Op → Type 0
 Removed o o′ = (o ≡ edit Nothing → ⊥) × (o′ ≡ edit Nothing)
+
+-- o is a move or remat into slot s
+pub data IntoSlot (o : Op) (s : ℕ) : Type 0 where
+  by-move : {p : Place} {v : Value} → o ≡ edit (Move (Slot (record { 0 = s })) p v) → IntoSlot o s
+  by-remat : {v : Value} → o ≡ edit (Remat (Slot (record { 0 = s })) v) → IntoSlot o s
 
 -- row j of the edits stands at position i of block b
 pub data Stands (sh : Sheet) (b i j : ℕ) : Type 0 where
@@ -64,14 +70,24 @@ AreEnds f A = (b s : ℕ) → (isIn s (getD A b []) ≡ true) ↔ WantedAtEnd f 
 
 -- every slot that an operation reads is below the limit
 abbrev pub ReadsWithin : Func → Type 0
-ReadsWithin f = (b i s : ℕ) (o : Op) (os : List Op) → Left f b i (o ∷ os) → Reads o s → s < slotLimit
+ReadsWithin f = (b i s : ℕ) (o : Op) (os : List Op) → Left f b i (o ∷ os) → In s (reads o) → s < slotLimit
 
--- The walk of a sheet after the forward rules: what is there before the sweep. And after it.
+-- The walk of a sheet after the forward rules, and that walk swept.
 abbrev pub optimised : Sheet → Level → Walk
 optimised sh level = optimise sh level (start sh)
 
 abbrev pub final : Sheet → Level → Walk
 final sh level = sweep sh (optimised sh level)
+
+-- The operands' places after folding, the edits before the sweep, and the edits after it.
+abbrev pub foldedPlaces : Sheet → Level → List Place
+foldedPlaces sh level = optimised sh level .places
+
+abbrev pub editsBefore : Sheet → Level → List Edit
+editsBefore sh level = optimised sh level .edits
+
+abbrev pub editsAfter : Sheet → Level → List Edit
+editsAfter sh level = final sh level .edits
 
 -- the function of a walk
 abbrev pub walked : Sheet → Walk → Func

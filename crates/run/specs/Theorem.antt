@@ -14,21 +14,25 @@ use Rattle.rules.specs.Sheet.{Sheet}
 use Rattle.rules.specs.Accept.{withinLimits, namesHold}
 use Rattle.rules.specs.Forward.{Walk}
 use Rattle.rules.specs.Function.{Inst, Op, edit, inst, Func, funcOf, In, Left, IsWalk, along}
-use Rattle.rules.specs.Sweep.{Wanted, Into, wantedAt, ends, strikeBlocks, sweep}
+use Rattle.rules.specs.Sweep.{Wanted, wantedAt, ends, strikeBlocks, sweep}
 use Rattle.rules.specs.Brought.{BroughtOn}
 use Rattle.rules.specs.Model.{State, Machine, step, steps, Agree}
-use Rattle.run.specs.Swept.{Swept, Removed, SweptRows, Stands, StandsOnce, MadeNone, AreEnds, ReadsWithin, optimised, final, walked, UnitIn}
+use Rattle.run.specs.Swept.{Swept, Removed, IntoSlot, SweptRows, Stands, StandsOnce, MadeNone, AreEnds, ReadsWithin, optimised, foldedPlaces, editsBefore, editsAfter, walked, UnitIn}
 
--- For every machine, walk and start, in the runs with the operations before and after the sweep: at each step all registers agree, and every slot
--- that an instruction or a kept edit reads there.
+-- For every machine, walk and start, in the runs with the operations of f and of g: at each step all registers agree, and every slot that an
+-- operation of g reads there.
+abbrev pub RunsAgree : Func → Func → Type 0
+RunsAgree f g = (M : Machine) (w : List ℕ) → IsWalk f w → (st : State) → Agree (steps M (along f w) st) (steps M (along g w) st)
+
+-- The runs before and after the sweep agree: on all registers, and on every slot that an instruction or a kept edit reads.
 abbrev pub Safe : Type 0
-Safe = (f g : Func) → Swept f g → (M : Machine) (w : List ℕ) → IsWalk f w → (st : State) → Agree (steps M (along f w) st) (steps M (along g w) st)
+Safe = (f g : Func) → Swept f g → RunsAgree f g
 
 -- An operation is removed exactly when it is a move or remat into a slot whose content is not brought on after it; all else stays.
 abbrev pub Exact : Type 0
 Exact =
     (f g : Func) → Swept f g → (b i : ℕ) (o o′ : Op) (os os′ : List Op) → Left f b i (o ∷ os) → Left g b i (o′ ∷ os′) →
-    (Removed o o′ ↔ ((s : ℕ) × Into o s × (BroughtOn f b (suc i) s → ⊥))) × ((Removed o o′ → ⊥) → o′ ≡ o)
+    (Removed o o′ ↔ ((s : ℕ) × IntoSlot o s × (BroughtOn f b (suc i) s → ⊥))) × ((Removed o o′ → ⊥) → o′ ≡ o)
 
 -- There is one sweep of a function.
 abbrev pub Once : Type 0
@@ -36,17 +40,14 @@ Once = (f g h : Func) → Swept f g → Swept f h → g ≡ h
 
 -- `Safe` on a sheet's rows
 abbrev pub SafeRows : Type 0
-SafeRows =
-    (sh : Sheet) (places : List Place) (es es′ : List Edit) → SweptRows sh places es es′ →
-    (M : Machine) (w : List ℕ) → IsWalk (funcOf sh places es) w → (st : State) →
-    Agree (steps M (along (funcOf sh places es) w) st) (steps M (along (funcOf sh places es′) w) st)
+SafeRows = (sh : Sheet) (places : List Place) (es es′ : List Edit) → SweptRows sh places es es′ → RunsAgree (funcOf sh places es) (funcOf sh places es′)
 
 -- `Exact` of one row of the edits es, which stands at position i of block b: es′ has `none` for it exactly when it is a move or remat into a slot
 -- whose content is not brought on after it, and otherwise has it as it was
 abbrev pub ExactRow : Sheet → List Place → List Edit → List Edit → ℕ → ℕ → ℕ → Type 0
 ExactRow sh places es es′ b i j =
     (MadeNone (getD es j Nothing) (getD es′ j Nothing)
-    ↔ ((s : ℕ) × Into (edit (getD es j Nothing)) s × (BroughtOn (funcOf sh places es) b (suc i) s → ⊥)))
+    ↔ ((s : ℕ) × IntoSlot (edit (getD es j Nothing)) s × (BroughtOn (funcOf sh places es) b (suc i) s → ⊥)))
     × ((MadeNone (getD es j Nothing) (getD es′ j Nothing) → ⊥) → getD es′ j Nothing ≡ getD es j Nothing)
 
 -- `Exact` on a sheet's rows
@@ -99,14 +100,17 @@ AcceptedWithin = (sh : Sheet) (level : Level) → withinLimits sh ≡ true → n
 abbrev pub SafeCall : Type 0
 SafeCall =
     (sh : Sheet) (level : Level) → withinLimits sh ≡ true → namesHold sh ≡ true →
-    (M : Machine) (w : List ℕ) → IsWalk (walked sh (optimised sh level)) w → (st : State) →
-    Agree (steps M (along (walked sh (optimised sh level)) w) st) (steps M (along (walked sh (final sh level)) w) st)
+    RunsAgree (funcOf sh (foldedPlaces sh level) (editsBefore sh level)) (funcOf sh (foldedPlaces sh level) (editsAfter sh level))
 
--- and `Exact`, of every edit row, at the one position where it stands
+-- `Exact` of every row of the edits es, at the one position where it stands
+abbrev pub ExactEdits : Sheet → List Place → List Edit → List Edit → Type 0
+ExactEdits sh places es es′ = (j : ℕ) → j < length (sh .edits) → (b : ℕ) × (i : ℕ) × StandsOnce sh b i j × ExactRow sh places es es′ b i j
+
+-- and `Exact` for the call
 abbrev pub ExactCall : Type 0
 ExactCall =
-    (sh : Sheet) (level : Level) → withinLimits sh ≡ true → namesHold sh ≡ true → (j : ℕ) → j < length (sh .edits) →
-    (b : ℕ) × (i : ℕ) × StandsOnce sh b i j × ExactRow sh (optimised sh level .places) (optimised sh level .edits) (final sh level .edits) b i j
+    (sh : Sheet) (level : Level) → withinLimits sh ≡ true → namesHold sh ≡ true →
+    ExactEdits sh (foldedPlaces sh level) (editsBefore sh level) (editsAfter sh level)
 
 -- A clobbered unit that no operand defines holds the supply's word afterwards.
 abbrev pub Clobbers : Type 0

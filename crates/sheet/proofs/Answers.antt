@@ -1,4 +1,4 @@
--- What an answer says of the specification, and back.
+-- For src/fields.rt and `field` of src/lexing.rt, which answer with an enum of their own: what an answer says of the specification's option, and back.
 -- Assumes nothing.
 use mathlib.Core.Path.{_≡_, refl}
 use mathlib.Core.Option.{Option, none, some}

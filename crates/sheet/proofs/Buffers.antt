@@ -1,4 +1,4 @@
--- A table that is filled from the front of each of its sections, and the sections' lists, a row more at a time. Assumes nothing.
+-- For the loops of src/lexing.rt and src/kinds.rt: a table that is filled from the front of each of its sections, and the sections' lists, a row more at a time. Assumes nothing.
 use mathlib.Core.Path.{_≡_, refl, _∙_, ap}
 use mathlib.Core.List.{List, [], _∷_, _++_, append-assoc, append-nil}
 use Prim.Native.Nat.{ℕ, _+_, _<_}
@@ -25,11 +25,6 @@ pub flatten-more : (rs : List (List ℕ)) (r : List ℕ) → flatten (rs ++ (r �
 unfolding flatten
 flatten-more [] r = append-nil r
 flatten-more (x ∷ rs) r = rw (flatten-more rs r, append-assoc)
-
-pub length-offsets : (rs : List (List ℕ)) (a : ℕ) → length (offsets a rs) ≡ length rs + 1
-unfolding offsets
-length-offsets [] a = refl
-length-offsets (r ∷ rs) a = rw (length-offsets rs (a + length r)) (omega arith)
 
 pub offsets-more : (rs : List (List ℕ)) (a : ℕ) (r : List ℕ) → offsets a (rs ++ (r ∷ [])) ≡ offsets a rs ++ ((a + length (flatten rs ++ r)) ∷ [])
 unfolding offsets flatten

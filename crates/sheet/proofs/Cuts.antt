@@ -1,9 +1,9 @@
--- One field cut off a sheet, and what is left: `cut` and `cellsOf`, a field at a time. Assumes nothing.
+-- For `rows` of src/lexing.rt, one field cut off a sheet, and what is left: `cut` and `cellsOf` of rules/specs/Rows.antt, a field at a time. Assumes nothing.
 use mathlib.Core.Path.{_≡_, refl, sym, _∙_, ap, subst}
 use mathlib.Core.Bool.{Bool, true, false, false≢true}
 use mathlib.Core.Logic.{_⊎_, inl, inr, ⊎-elim}
 use mathlib.Core.List.{List, [], _∷_}
-use mathlib.Core.Option.{Option, none, some, bind, Option·map, Option·some-ne-none}
+use mathlib.Core.Option.{Option, none, some, bind, Option·map}
 use Prim.Native.Nat.{ℕ, _+_, _-_, _<_}
 use native.Mathlib.Nat.{add-assoc}
 use native.Mathlib.Omega.{arith}
@@ -11,6 +11,7 @@ use lib.ListN.{length, drop, length-drop}
 use lib.Seq.{drop-drop}
 use lib.Dec.{eqb}
 use borrow.Author.Tests.{ne-eqb, eqb-true, eqb-false}
+use Rattle.laws.proofs.Cases.{some-ne-none}
 use Rattle.rules.specs.Cells.{cellOf}
 use Rattle.rules.specs.Rows.{newRow, newField, onto, cut, every, cellsOf, reading}
 use Rattle.sheet.specs.Answers.{upTo, comma, crlf, ended, fieldAt}
@@ -215,11 +216,8 @@ nil-none : cellOf [] ≡ none
 unfolding reading
 nil-none = refl
 
-pub some-none : {A : Type 0} {a : A} {o : Option A} → o ≡ some a → o ≡ none → ⊥
-some-none {a} e g = Option·some-ne-none a (sym e ∙ g)
-
 has-byte : (f : List ℕ) (c : ℕ) → cellOf f ≡ some c → 0 < length f
-has-byte [] c e = absurd (some-none e nil-none)
+has-byte [] c e = some-ne-none e nil-none
 has-byte (b ∷ bs) c e = omega arith
 
 comma-byte : (u : List ℕ) → comma u ≡ true → 0 < length u

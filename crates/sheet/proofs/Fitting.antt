@@ -1,4 +1,4 @@
--- Shapes, by the code's tests: the fields of a row of known length, and lists. Assumes nothing.
+-- For src/shapes.rt, the shapes of rules/specs/Rows.antt by the code's tests: the fields of a row of known length, and lists. Assumes nothing.
 use mathlib.Core.Path.{_≡_, refl, sym, _∙_, ap}
 use mathlib.Core.Bool.{Bool, true, false, _&&_, _||_, and-true, and-false, and-assoc}
 use mathlib.Core.List.{List, [], _∷_}
@@ -7,6 +7,7 @@ use native.Mathlib.Omega.{arith}
 use lib.ListN.{length, getD, take, drop}
 use borrow.Author.Tests.{lt-ltb, le-ltb, ne-eqb}
 use Rattle.laws.specs.Lists.{all}
+use Rattle.rules.specs.Cells.{numberLimit}
 use Rattle.rules.specs.Rows.{Field, number, dash, place, constraint, only, _upTo_, fieldOk, Shape, end, list, list₁, _▸_, fits, opShape, editShape, rowOk}
 use Rattle.sheet.specs.Grammar.{plainOp, fixedOp, fitsKind}
 use Rattle.sheet.proofs.Lists.{drop-step, drop-end, part-rest}
@@ -183,13 +184,13 @@ module _ (a b : Field) where
 -- ---- all are numbers, at a cursor
 
 module _ (cs : List ℕ) (i : ℕ) where
-  pub numbers-not : i < length cs → 100000 ≤ getD cs i 0 → all (fieldOk number) (drop i cs) ≡ false
+  pub numbers-not : i < length cs → numberLimit ≤ getD cs i 0 → all (fieldOk number) (drop i cs) ≡ false
   unfolding all fieldOk
-  numbers-not h l = rw (drop-step cs i h, le-ltb (getD cs i 0) 100000 l)
+  numbers-not h l = rw (drop-step cs i h, le-ltb (getD cs i 0) numberLimit l)
 
-  pub numbers-more : i < length cs → getD cs i 0 < 100000 → all (fieldOk number) (drop i cs) ≡ all (fieldOk number) (drop (i + 1) cs)
+  pub numbers-more : i < length cs → getD cs i 0 < numberLimit → all (fieldOk number) (drop i cs) ≡ all (fieldOk number) (drop (i + 1) cs)
   unfolding all fieldOk
-  numbers-more h l = rw (drop-step cs i h, lt-ltb (getD cs i 0) 100000 l)
+  numbers-more h l = rw (drop-step cs i h, lt-ltb (getD cs i 0) numberLimit l)
 
   pub numbers-end : length cs ≤ i → all (fieldOk number) (drop i cs) ≡ true
   unfolding all

@@ -1,4 +1,4 @@
--- A field by its shapes: with a mark, and the first shape that it has. Assumes nothing.
+-- For `marked` and `cell_of` of src/fields.rt, a field by its shapes: with a mark, and the first shape that it has. Assumes nothing.
 use mathlib.Core.Path.{_≡_, refl, ap, subst}
 use mathlib.Core.Bool.{Bool}
 use mathlib.Core.List.{List, [], _∷_}
@@ -9,7 +9,7 @@ use lib.ListN.{length, getD, take, drop}
 use lib.Dec.{eqb}
 use Rattle.laws.proofs.Cases.{by-bool}
 use Rattle.rules.specs.Text.{bytes}
-use Rattle.rules.specs.Cells.{find, marks, numberOf, markedOf, wordOf, cellOf}
+use Rattle.rules.specs.Cells.{find, marks, numberOf, markedOf, wordOf, cellOf, numberLimit}
 use Rattle.sheet.proofs.Lists.{part-rest}
 
 -- ---- a field with a mark
@@ -20,10 +20,10 @@ marked-empty [] h = refl
 marked-empty (b ∷ bs) h = absurd (omega arith)
 
 pub marked-is : (f : List ℕ) (k : ℕ) (o : Option ℕ) → 0 < length f → find (eqb (getD f 0 0)) 2 marks ≡ some k
-    → numberOf (take (length f - 1) (drop 1 f)) ≡ o → markedOf f ≡ Option·map (λ n. k * 100000 + n) o
+    → numberOf (take (length f - 1) (drop 1 f)) ≡ o → markedOf f ≡ Option·map (λ n. k * numberLimit + n) o
 unfolding markedOf bind
 marked-is [] k o h e g = absurd (omega arith)
-marked-is (b ∷ bs) k o h e g = rw e (ap (Option·map (λ n. k * 100000 + n)) (rw part-rest at g))
+marked-is (b ∷ bs) k o h e g = rw e (ap (Option·map (λ n. k * numberLimit + n)) (rw part-rest at g))
 
 pub marked-not : (f : List ℕ) → 0 < length f → find (eqb (getD f 0 0)) 2 marks ≡ none → markedOf f ≡ none
 unfolding markedOf bind

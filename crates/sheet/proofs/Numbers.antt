@@ -1,6 +1,6 @@
--- The number that a field is: when it is none, and when it is which. Assumes nothing.
+-- For `number` of src/fields.rt, the number that a field is: when it is none, and when it is which. Assumes nothing.
 use mathlib.Core.Path.{_≡_, refl}
-use mathlib.Core.Bool.{Bool, true, false, cond, _&&_, and-false, false≢true}
+use mathlib.Core.Bool.{Bool, true, false, cond, _&&_, and-false}
 use mathlib.Core.List.{List, [], _∷_}
 use mathlib.Core.Option.{none, some, Option·some-injective, Option·none-ne-some}
 use Prim.Native.Nat.{ℕ, _+_, _-_, _*_, _^_, _<_, _≤_}
@@ -11,7 +11,8 @@ use lib.ListN.{length, getD, drop}
 use lib.Dec.{leb}
 use borrow.Author.Tests.{le-leb, lt-leb, eq-eqb, ne-eqb, leb-true}
 use Rattle.laws.specs.Lists.{all}
-use Rattle.rules.specs.Cells.{isDigit, decimal, noLeadingZero, numberOf}
+use Rattle.laws.proofs.Cases.{and-parts}
+use Rattle.rules.specs.Cells.{isDigit, decimal, noLeadingZero, numberOf, numberLimit}
 use Rattle.sheet.proofs.Lists.{drop-step, drop-end}
 
 -- ---- at a cursor
@@ -81,19 +82,15 @@ module _ (f : List ℕ) where
 
 -- ---- a number is below 100000
 
-pub and-both : (a b : Bool) → (a && b) ≡ true → (a ≡ true) × (b ≡ true)
-and-both true b e = (refl, e)
-and-both false b e = absurd (false≢true e)
-
 nine : (b : ℕ) → isDigit b ≡ true → b - 48 ≤ 9
 unfolding isDigit
-nine b e = omega (arith, leb-true b 57 (and-both (leb 48 b) (leb b 57) e .1))
+nine b e = omega (arith, leb-true b 57 (and-parts (leb 48 b) (leb b 57) e .1))
 
 bound : (f : List ℕ) (v : ℕ) → all isDigit f ≡ true → decimal v f < (v + 1) * 10 ^ length f
 unfolding all decimal
 bound [] v d = rw mul-one (omega arith)
 bound (b ∷ bs) v d =
-    let h = and-both (isDigit b) (all isDigit bs) d in
+    let h = and-parts (isDigit b) (all isDigit bs) d in
     rw (pow-succ', ← mul-assoc)
     (lt-of-lt-of-le (bound bs (v * 10 + (b - 48)) (h .1)) (mul-le-mul-right (10 ^ length bs) (omega (arith, nine b (h .0)))))
 
@@ -101,12 +98,12 @@ cond-some : (b : Bool) (v n : ℕ) → cond b (some v) none ≡ some n → (b �
 cond-some true v n e = (refl, Option·some-injective v n e)
 cond-some false v n e = absurd (Option·none-ne-some n e)
 
-pub number-below : (f : List ℕ) (n : ℕ) → numberOf f ≡ some n → n < 100000
+pub number-below : (f : List ℕ) (n : ℕ) → numberOf f ≡ some n → n < numberLimit
 unfolding numberOf
 number-below f n e =
     let w = cond-some (all isDigit f && leb 1 (length f) && leb (length f) 5 && noLeadingZero f) (decimal 0 f) n e in
-    let x = and-both (all isDigit f && leb 1 (length f) && leb (length f) 5) (noLeadingZero f) (w .0) .0 in
-    let y = and-both (all isDigit f && leb 1 (length f)) (leb (length f) 5) x in
-    let z = and-both (all isDigit f) (leb 1 (length f)) (y .0) in
+    let x = and-parts (all isDigit f && leb 1 (length f) && leb (length f) 5) (noLeadingZero f) (w .0) .0 in
+    let y = and-parts (all isDigit f && leb 1 (length f)) (leb (length f) 5) x in
+    let z = and-parts (all isDigit f) (leb 1 (length f)) (y .0) in
     let k = leb-true (length f) 5 (y .1) in
     omega (arith, w .1, bound f 0 (z .0), pow-le-pow-right {n = 10} (omega arith) {i = length f} {j = 5} k)

@@ -1,4 +1,4 @@
--- How a row follows the one before it, by the code's tests, and the sheet's test a row at a time. Assumes nothing.
+-- For src/grammar.rt: how a row follows the one before it, by the code's tests, and the sheet's test a row at a time. Assumes nothing.
 use mathlib.Core.Path.{_≡_, refl, sym, _∙_, ap, subst}
 use mathlib.Core.Bool.{Bool, true, false, _&&_, _||_, and-false}
 use mathlib.Core.List.{List, [], _∷_}
@@ -9,6 +9,7 @@ use lib.Dec.{eqb, ltb, leb}
 use borrow.Author.Tests.{eq-eqb, ne-eqb}
 use Rattle.laws.specs.Lists.{all}
 use Rattle.laws.proofs.Cases.{by-eq}
+use Rattle.rules.specs.Words.{blockWord, classWord, clobWord, editWord, groupWord, opWord, paramWord, predWord, regWord, slotsWord, succWord, valueWord, vgroupWord}
 use Rattle.rules.specs.Rows.{Kind, kinds, kindFrom, kind, first, begins, goesOn, rowOk, pairOk, pairsOk, sheetOk, reading}
 use Rattle.sheet.specs.Grammar.{fitsKind, beginsKind, goesOnKind, follows}
 use Rattle.table.specs.Table.{rowsFrom, rowsIn}
@@ -26,75 +27,75 @@ between P a zero p k h l = absurd (omega arith)
 between P a (suc n) p k h l = by-eq k a (λ e. subst P (sym e) (p .0)) (λ d. between P (suc a) n (p .1) k (omega arith) (omega arith))
 
 -- a number that is no kind's
-pub no-kind : (k : ℕ) → (k ≡ 100001 → ⊥) → (k ≡ 100002 → ⊥) → (k ≡ 100003 → ⊥) → (k ≡ 100004 → ⊥) → (k ≡ 100005 → ⊥) → (k ≡ 100006 → ⊥) → (k ≡ 100007 → ⊥) → (k ≡ 100008 → ⊥) → (k ≡ 100009 → ⊥) → (k ≡ 100010 → ⊥) → (k ≡ 100011 → ⊥) → (k ≡ 100012 → ⊥) → (k ≡ 100013 → ⊥) → kindFrom kinds k ≡ none
+pub no-kind : (k : ℕ) → (k ≡ slotsWord → ⊥) → (k ≡ regWord → ⊥) → (k ≡ classWord → ⊥) → (k ≡ groupWord → ⊥) → (k ≡ valueWord → ⊥) → (k ≡ vgroupWord → ⊥) → (k ≡ blockWord → ⊥) → (k ≡ succWord → ⊥) → (k ≡ predWord → ⊥) → (k ≡ paramWord → ⊥) → (k ≡ opWord → ⊥) → (k ≡ clobWord → ⊥) → (k ≡ editWord → ⊥) → kindFrom kinds k ≡ none
 unfolding reading
 no-kind k n1 n2 n3 n4 n5 n6 n7 n8 n9 n10 n11 n12 n13 =
     rw (
-      ne-eqb k 100001 n1,
-      ne-eqb k 100002 n2,
-      ne-eqb k 100003 n3,
-      ne-eqb k 100004 n4,
-      ne-eqb k 100005 n5,
-      ne-eqb k 100006 n6,
-      ne-eqb k 100007 n7,
-      ne-eqb k 100008 n8,
-      ne-eqb k 100009 n9,
-      ne-eqb k 100010 n10,
-      ne-eqb k 100011 n11,
-      ne-eqb k 100012 n12,
-      ne-eqb k 100013 n13,
+      ne-eqb k slotsWord n1,
+      ne-eqb k regWord n2,
+      ne-eqb k classWord n3,
+      ne-eqb k groupWord n4,
+      ne-eqb k valueWord n5,
+      ne-eqb k vgroupWord n6,
+      ne-eqb k blockWord n7,
+      ne-eqb k succWord n8,
+      ne-eqb k predWord n9,
+      ne-eqb k paramWord n10,
+      ne-eqb k opWord n11,
+      ne-eqb k clobWord n12,
+      ne-eqb k editWord n13,
     )
 
-outside : (k : ℕ) → (100001 ≤ k → k ≤ 100013 → ⊥) → kindFrom kinds k ≡ none
+outside : (k : ℕ) → (slotsWord ≤ k → k ≤ editWord → ⊥) → kindFrom kinds k ≡ none
 outside k h =
-    let out : (d : ℕ) → 100001 ≤ d → d ≤ 100013 → k ≡ d → ⊥ = λ d a b e. h (omega arith) (omega arith) in
-    no-kind k (out 100001 (omega arith) (omega arith)) (out 100002 (omega arith) (omega arith)) (out 100003 (omega arith) (omega arith)) (out 100004 (omega arith) (omega arith)) (out 100005 (omega arith) (omega arith)) (out 100006 (omega arith) (omega arith)) (out 100007 (omega arith) (omega arith)) (out 100008 (omega arith) (omega arith)) (out 100009 (omega arith) (omega arith)) (out 100010 (omega arith) (omega arith)) (out 100011 (omega arith) (omega arith)) (out 100012 (omega arith) (omega arith)) (out 100013 (omega arith) (omega arith))
+    let out : (d : ℕ) → slotsWord ≤ d → d ≤ editWord → k ≡ d → ⊥ = λ d a b e. h (omega arith) (omega arith) in
+    no-kind k (out slotsWord (omega arith) (omega arith)) (out regWord (omega arith) (omega arith)) (out classWord (omega arith) (omega arith)) (out groupWord (omega arith) (omega arith)) (out valueWord (omega arith) (omega arith)) (out vgroupWord (omega arith) (omega arith)) (out blockWord (omega arith) (omega arith)) (out succWord (omega arith) (omega arith)) (out predWord (omega arith) (omega arith)) (out paramWord (omega arith) (omega arith)) (out opWord (omega arith) (omega arith)) (out clobWord (omega arith) (omega arith)) (out editWord (omega arith) (omega arith))
 
 module _ (k n : ℕ) where
-  pub begins-at-0 : 100002 ≤ k → k ≤ 100007 → eqb n 0 ≡ beginsKind k n
+  pub begins-at-0 : regWord ≤ k → k ≤ blockWord → eqb n 0 ≡ beginsKind k n
   unfolding beginsKind reading
-  begins-at-0 h l = between (λ (k : ℕ). eqb n 0 ≡ beginsKind k n) 100002 6 (refl, (refl, (refl, (refl, (refl, (refl, tt)))))) k h (omega arith)
+  begins-at-0 h l = between (λ (k : ℕ). eqb n 0 ≡ beginsKind k n) regWord 6 (refl, (refl, (refl, (refl, (refl, (refl, tt)))))) k h (omega arith)
 
-  pub begins-once : k ≡ 100001 → true ≡ beginsKind k n
+  pub begins-once : k ≡ slotsWord → true ≡ beginsKind k n
   unfolding beginsKind reading
   begins-once e = rw e
 
-  pub begins-anywhere : 100008 ≤ k → k ≤ 100013 → true ≡ beginsKind k n
+  pub begins-anywhere : succWord ≤ k → k ≤ editWord → true ≡ beginsKind k n
   unfolding beginsKind reading
-  begins-anywhere h l = between (λ (k : ℕ). true ≡ beginsKind k n) 100008 6 (refl, (refl, (refl, (refl, (refl, (refl, tt)))))) k h (omega arith)
+  begins-anywhere h l = between (λ (k : ℕ). true ≡ beginsKind k n) succWord 6 (refl, (refl, (refl, (refl, (refl, (refl, tt)))))) k h (omega arith)
 
-  pub begins-not : (100001 ≤ k → k ≤ 100013 → ⊥) → false ≡ beginsKind k n
+  pub begins-not : (slotsWord ≤ k → k ≤ editWord → ⊥) → false ≡ beginsKind k n
   unfolding beginsKind Option·elim
   begins-not h = rw (outside k h)
 
 module _ (k x n : ℕ) where
-  pub counts-on : 100002 ≤ k → k ≤ 100007 → eqb n (x + 1) ≡ goesOnKind k x n
+  pub counts-on : regWord ≤ k → k ≤ blockWord → eqb n (x + 1) ≡ goesOnKind k x n
   unfolding goesOnKind reading
-  counts-on h l = between (λ (k : ℕ). eqb n (x + 1) ≡ goesOnKind k x n) 100002 6 (refl, (refl, (refl, (refl, (refl, (refl, tt)))))) k h (omega arith)
+  counts-on h l = between (λ (k : ℕ). eqb n (x + 1) ≡ goesOnKind k x n) regWord 6 (refl, (refl, (refl, (refl, (refl, (refl, tt)))))) k h (omega arith)
 
-  pub rises-on : 100008 ≤ k → k ≤ 100009 → ltb x n ≡ goesOnKind k x n
+  pub rises-on : succWord ≤ k → k ≤ predWord → ltb x n ≡ goesOnKind k x n
   unfolding goesOnKind reading
-  rises-on h l = between (λ (k : ℕ). ltb x n ≡ goesOnKind k x n) 100008 2 (refl, (refl, tt)) k h (omega arith)
+  rises-on h l = between (λ (k : ℕ). ltb x n ≡ goesOnKind k x n) succWord 2 (refl, (refl, tt)) k h (omega arith)
 
-  pub never-falls : 100010 ≤ k → k ≤ 100011 → leb x n ≡ goesOnKind k x n
+  pub never-falls : paramWord ≤ k → k ≤ opWord → leb x n ≡ goesOnKind k x n
   unfolding goesOnKind reading
-  never-falls h l = between (λ (k : ℕ). leb x n ≡ goesOnKind k x n) 100010 2 (refl, (refl, tt)) k h (omega arith)
+  never-falls h l = between (λ (k : ℕ). leb x n ≡ goesOnKind k x n) paramWord 2 (refl, (refl, tt)) k h (omega arith)
 
-  pub clobs-rise : k ≡ 100012 → ltb x n ≡ goesOnKind k x n
+  pub clobs-rise : k ≡ clobWord → ltb x n ≡ goesOnKind k x n
   unfolding goesOnKind reading
   clobs-rise e = rw e
 
-  pub edits-go-on : k ≡ 100013 → true ≡ goesOnKind k x n
+  pub edits-go-on : k ≡ editWord → true ≡ goesOnKind k x n
   unfolding goesOnKind reading
   edits-go-on e = rw e
 
-  once-not : k ≡ 100001 → false ≡ goesOnKind k x n
+  once-not : k ≡ slotsWord → false ≡ goesOnKind k x n
   unfolding goesOnKind reading
   once-not e = rw e
 
-  pub goes-on-not : (100002 ≤ k → k ≤ 100013 → ⊥) → false ≡ goesOnKind k x n
+  pub goes-on-not : (regWord ≤ k → k ≤ editWord → ⊥) → false ≡ goesOnKind k x n
   unfolding goesOnKind Option·elim
-  goes-on-not h = by-eq k 100001 once-not (λ d. rw (outside k (λ a b. h (omega arith) (omega arith))))
+  goes-on-not h = by-eq k slotsWord once-not (λ d. rw (outside k (λ a b. h (omega arith) (omega arith))))
 
 pub fits-not : (k : ℕ) (cs : List ℕ) → kindFrom kinds k ≡ none → false ≡ fitsKind k cs
 unfolding fitsKind Option·elim
@@ -126,19 +127,19 @@ pairs-by p (r ∷ rs) = ap (λ (b : Bool). pairOk p r && b) (pairs-by r rs)
 unfoldable pub left : ℕ → ℕ → List (List ℕ) → Bool
 left p x rs = all rowOk rs && pairsBy p x rs
 
-follows-first : (k n : ℕ) → k ≡ 100001 → follows 0 0 k n ≡ true
+follows-first : (k n : ℕ) → k ≡ slotsWord → follows 0 0 k n ≡ true
 unfolding follows reading
 follows-first k n e = rw e
 
-sheet-first : (r : List ℕ) (rs : List (List ℕ)) → kind r ≡ 100001 → sheetOk (r ∷ rs) ≡ left 0 0 (r ∷ rs)
+sheet-first : (r : List ℕ) (rs : List (List ℕ)) → kind r ≡ slotsWord → sheetOk (r ∷ rs) ≡ left 0 0 (r ∷ rs)
 unfolding sheetOk left pairsBy reading
 sheet-first r rs e =
-    ap (λ (b : Bool). (b && all rowOk (r ∷ rs)) && pairsOk r rs) (eq-eqb (kind r) 100001 e)
+    ap (λ (b : Bool). (b && all rowOk (r ∷ rs)) && pairsOk r rs) (eq-eqb (kind r) slotsWord e)
     ∙ ap (λ (b : Bool). all rowOk (r ∷ rs) && b) (pairs-by r rs ∙ sym (ap (λ (b : Bool). b && pairsBy (kind r) (first r) rs) (follows-first (kind r) (first r) e)))
 
-sheet-other : (r : List ℕ) (rs : List (List ℕ)) → (kind r ≡ 100001 → ⊥) → false ≡ sheetOk (r ∷ rs)
+sheet-other : (r : List ℕ) (rs : List (List ℕ)) → (kind r ≡ slotsWord → ⊥) → false ≡ sheetOk (r ∷ rs)
 unfolding sheetOk reading
-sheet-other r rs e = rw (ne-eqb (kind r) 100001 e)
+sheet-other r rs e = rw (ne-eqb (kind r) slotsWord e)
 
 left-row : (p x : ℕ) (r : List ℕ) (rs : List (List ℕ)) → rowOk r ≡ false → left p x (r ∷ rs) ≡ false
 unfolding left all
@@ -167,10 +168,10 @@ module _ (t : List ℕ) (n : ℕ) where
   unfolding rowsIn
   all-rows h = ap (rowsFrom t 0) (omega arith) ∙ rows-step t 0 n h
 
-  pub not-slots : 0 < n → (kind (rowIn t 0) ≡ 100001 → ⊥) → false ≡ sheetOk (rowsIn t n)
+  pub not-slots : 0 < n → (kind (rowIn t 0) ≡ slotsWord → ⊥) → false ≡ sheetOk (rowsIn t n)
   not-slots h d = rw (all-rows h) (sheet-other (rowIn t 0) (rowsFrom t 1 (n - 1)) d)
 
-  pub from-slots : 0 < n → kind (rowIn t 0) ≡ 100001 → sheetOk (rowsIn t n) ≡ left 0 0 (rowsFrom t 0 (n - 0))
+  pub from-slots : 0 < n → kind (rowIn t 0) ≡ slotsWord → sheetOk (rowsIn t n) ≡ left 0 0 (rowsFrom t 0 (n - 0))
   from-slots h e = rw (all-rows h, rows-step t 0 n h) (sheet-first (rowIn t 0) (rowsFrom t 1 (n - 1)) e)
 
   module _ (i p x : ℕ) (h : i < n) where

@@ -1,4 +1,4 @@
--- The words: found packed, by their remainder. Assumes nothing.
+-- For `word`, `packed` and `lookup` of src/fields.rt: the words, found packed, by their remainder. Assumes nothing.
 use mathlib.Core.Path.{_≡_, refl, sym, ap, subst}
 use mathlib.Core.Bool.{Bool, true, false, _&&_, _||_, and-false, true≢false}
 use mathlib.Core.List.{List, [], _∷_, map}
@@ -12,7 +12,7 @@ use lib.Seq.{getD-drop}
 use lib.Dec.{T, ltb, ltb→lt, eqb, eqb→eq}
 use borrow.Author.Tests.{eq-eqb, ne-eqb, eqb-true, eqb-false}
 use Rattle.rules.specs.Text.{bytes, same}
-use Rattle.rules.specs.Cells.{find, words, wordOf}
+use Rattle.rules.specs.Cells.{find, words, wordOf, wordMark}
 use Rattle.sheet.specs.Packing.{pack, packed, findNum}
 use Rattle.sheet.proofs.Lists.{drop-step, drop-end}
 use Rattle.sheet.proofs.Tables.{both, both-left, both-right, every, at}
@@ -28,7 +28,7 @@ isAt (some m) n = eqb m n
 
 -- 0 stands for no word; any other key is a word and the place at which it is found
 right : ℕ → ℕ → Bool
-right k x = eqb x 0 || isAt (findNum (x / 32) 100000 packed) (100000 + x % 32)
+right k x = eqb x 0 || isAt (findNum (x / 32) wordMark packed) (wordMark + x % 32)
 
 rightly : T (every right 0 keys)
 unfolding right isAt keys findNum packed pack bytes words
@@ -57,10 +57,10 @@ or-right : (a b : Bool) → a ≡ false → T (a || b) → T b
 or-right true b e t = absurd (true≢false e)
 or-right false b e t = t
 
-pub found : (w k : ℕ) → 0 < w → k < 37 → getD keys k 0 / 32 ≡ w → findNum w 100000 packed ≡ some (100000 + getD keys k 0 % 32)
+pub found : (w k : ℕ) → 0 < w → k < 37 → getD keys k 0 / 32 ≡ w → findNum w wordMark packed ≡ some (wordMark + getD keys k 0 % 32)
 unfolding right keys
 found w k h l e =
-    subst (λ (x : ℕ). findNum x 100000 packed ≡ some (100000 + getD keys k 0 % 32)) e
+    subst (λ (x : ℕ). findNum x wordMark packed ≡ some (wordMark + getD keys k 0 % 32)) e
     (is-at _ _ (or-right _ _ (ne-eqb (getD keys k 0) 0 (λ z. omega arith)) (at right keys rightly k l)))
 
 absent : (w : ℕ) → (getD keys (w % 151257 % 37) 0 / 32 ≡ w → ⊥) → (k : ℕ) (xs : List ℕ) → T (allKept xs) → findNum w k xs ≡ none
@@ -71,8 +71,8 @@ absent w out k (x ∷ xs) t =
     rw (ne-eqb w x (λ e. out (subst (λ (y : ℕ). getD keys (y % 151257 % 37) 0 / 32 ≡ y) (sym e) here)))
     (absent w out (k + 1) xs (both-right (kept x) (allKept xs) t))
 
-pub missing : (w : ℕ) → (getD keys (w % 151257 % 37) 0 / 32 ≡ w → ⊥) → findNum w 100000 packed ≡ none
-missing w out = absent w out 100000 packed keptly
+pub missing : (w : ℕ) → (getD keys (w % 151257 % 37) 0 / 32 ≡ w → ⊥) → findNum w wordMark packed ≡ none
+missing w out = absent w out wordMark packed keptly
 
 -- ---- packed words are words
 
@@ -128,9 +128,9 @@ find-pack f h k [] t = refl
 find-pack f h k (w ∷ ws) t =
     rw (same-pack f (bytes w) h (are-bytes (bytes w) 0 (both-left (every below 0 (bytes w)) (allBytes ws) t)), find-pack f h (k + 1) ws (both-right (every below 0 (bytes w)) (allBytes ws) t))
 
-pub word-pack : (f : List ℕ) → Bytes f → wordOf f ≡ findNum (pack f) 100000 packed
+pub word-pack : (f : List ℕ) → Bytes f → wordOf f ≡ findNum (pack f) wordMark packed
 unfolding wordOf packed words allBytes bytes below
-word-pack f h = find-pack f h 100000 words tt
+word-pack f h = find-pack f h wordMark words tt
 
 -- ---- no word has more than seven bytes
 
@@ -153,7 +153,7 @@ find-long f h k (w ∷ ws) t =
 
 pub word-long : (f : List ℕ) → 7 < length f → wordOf f ≡ none
 unfolding wordOf words allShort bytes
-word-long f h = find-long f h 100000 words tt
+word-long f h = find-long f h wordMark words tt
 
 -- ---- packing from the end
 

@@ -1,4 +1,4 @@
--- A field at a cursor: its bytes are a part of the sheet, and what ends it is tested at two bytes. Assumes nothing.
+-- For `field` and `end` of src/lexing.rt, a field at a cursor: its bytes are a part of the sheet, and what ends it is tested at two bytes. Assumes nothing.
 use mathlib.Core.Path.{_≡_, refl, sym, _∙_, ap}
 use mathlib.Core.Bool.{Bool, true, false, cond, _||_, and-false, false≢true}
 use mathlib.Core.Logic.{_⊎_, inl, inr, ⊎-elim}

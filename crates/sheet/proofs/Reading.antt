@@ -1,4 +1,4 @@
--- The loop of `rows`: which rows are whole, which cells the row at hand has, and what the rest of the sheet adds. Assumes nothing.
+-- For `rows` of src/lexing.rt, its loop: which rows are whole, which cells the row at hand has, and what the rest of the sheet adds. Assumes nothing.
 use mathlib.Core.Path.{_≡_, refl, sym, _∙_, ap}
 use mathlib.Core.List.{List, [], _∷_, _++_, append-assoc, append-nil}
 use mathlib.Core.Option.{Option, none, some, bind, Option·some-injective}
@@ -7,13 +7,16 @@ use native.Mathlib.Nat.{zero-add}
 use native.Mathlib.Omega.{arith}
 use lib.ListN.{length, take, drop, set, length-append, length-set}
 use lib.Seq.{take-set-le, drop-set-lt}
+use Rattle.entity.specs.Limits.{byteLimit}
+use Rattle.laws.proofs.Cases.{some-ne-none}
 use Rattle.rules.specs.Rows.{every, cut, cellsOf}
 use Rattle.sheet.specs.Answers.{asLexed}
+use Rattle.table.specs.Layout.{rowStarts}
 use Rattle.table.specs.Table.{flatten, offsets, Holds}
 use Rattle.sheet.specs.declared.lexing.Lexed.{Lexed}
 use Rattle.sheet.specs.declared.lexing.Lexed.the-variants.{Rows, Broken}
 use Rattle.sheet.proofs.Lists.{drop-end}
-use Rattle.sheet.proofs.Cuts.{cellThen, lastThen, some-none}
+use Rattle.sheet.proofs.Cuts.{cellThen, lastThen}
 use Rattle.sheet.proofs.Buffers.{take-store, section-store, flatten-more, offsets-more}
 
 abbrev Cells : Type 0
@@ -60,7 +63,7 @@ pub record Reading (s t₀ t : List ℕ) (at n k inRow : ℕ) : Type 0 where
   pub here : at ≤ length s
   pub answer : cellsOf s ≡ resume done cur (cellsOf (drop at s))
   pub cells-are : take n t ≡ flatten done ++ cur
-  pub starts-are : take (k + 1) (drop 32768 t) ≡ offsets 0 done
+  pub starts-are : take (k + 1) (drop rowStarts t) ≡ offsets 0 done
   pub n-is : length (flatten done ++ cur) ≡ n
   pub k-is : length done ≡ k
   pub in-row : inRow ≡ isOpen cur
@@ -93,7 +96,7 @@ unfolding resume
 resume-nil none = refl
 resume-nil (some rs) = refl
 
-pub start : (s t : List ℕ) → 32768 < length t → Reading s (set t 32768 0) (set t 32768 0) 0 0 0 0
+pub start : (s t : List ℕ) → rowStarts < length t → Reading s (set t rowStarts 0) (set t rowStarts 0) 0 0 0 0
 unfolding flatten offsets isOpen
 start s t h =
     record {
@@ -102,7 +105,7 @@ start s t h =
       here = omega arith;
       answer = resume-nil (cellsOf s);
       cells-are = refl;
-      starts-are = section-store t 32768 0 0 h;
+      starts-are = section-store t rowStarts 0 0 h;
       n-is = refl;
       k-is = refl;
       in-row = refl;
@@ -115,13 +118,13 @@ module _ {s t₀ t : List ℕ} {at n k inRow : ℕ} (r : Reading s t₀ t at n k
   stored : (c : ℕ) → n < length t → take (n + 1) (set t n c) ≡ flatten (r .done) ++ (r .cur ++ (c ∷ []))
   stored c m = take-store t n c m ∙ ap (λ (l : List ℕ). l ++ (c ∷ [])) (r .cells-are) ∙ append-assoc (flatten (r .done)) (r .cur) (c ∷ [])
 
-  kept : (c : ℕ) → n < 32768 → take (k + 1) (drop 32768 (set t n c)) ≡ offsets 0 (r .done)
-  kept c m = ap (take (k + 1)) (drop-set-lt 32768 t n c m) ∙ r .starts-are
+  kept : (c : ℕ) → n < rowStarts → take (k + 1) (drop rowStarts (set t n c)) ≡ offsets 0 (r .done)
+  kept c m = ap (take (k + 1)) (drop-set-lt rowStarts t n c m) ∙ r .starts-are
 
   counted : (c : ℕ) → length (flatten (r .done) ++ (r .cur ++ (c ∷ []))) ≡ n + 1
   counted c = rw (← append-assoc, length-append, r .n-is)
 
-  pub more : (c e : ℕ) → at < e → e < length s → n < 32768 → n < length t → cellsOf (drop at s) ≡ cellThen (some c) (cellsOf (drop (e + 1) s))
+  pub more : (c e : ℕ) → at < e → e < length s → n < rowStarts → n < length t → cellsOf (drop at s) ≡ cellThen (some c) (cellsOf (drop (e + 1) s))
       → Reading s t₀ (set t n c) (e + 1) (n + 1) k 1
   more c e a l m b g =
       record {
@@ -146,9 +149,9 @@ module _ {s t₀ t : List ℕ} {at n k inRow : ℕ} (r : Reading s t₀ t at n k
   unfolding rows-more
   flat c = append-nil _ ∙ flatten-more (r .done) (r .cur ++ (c ∷ []))
 
-  pub last : (c e : ℕ) → at < e → e + 1 < length s → n < 32768 → 32768 + (k + 1) < length t
+  pub last : (c e : ℕ) → at < e → e + 1 < length s → n < rowStarts → rowStarts + (k + 1) < length t
       → cellsOf (drop at s) ≡ lastThen (some c) (cellsOf (drop (e + 2) s))
-      → Reading s t₀ (set (set t n c) (32768 + (k + 1)) (n + 1)) (e + 2) (n + 1) (k + 1) 0
+      → Reading s t₀ (set (set t n c) (rowStarts + (k + 1)) (n + 1)) (e + 2) (n + 1) (k + 1) 0
   unfolding rows-more isOpen
   last c e a l m b g =
       let long : length (set t n c) ≡ length t = length-set t n c in
@@ -157,9 +160,9 @@ module _ {s t₀ t : List ℕ} {at n k inRow : ℕ} (r : Reading s t₀ t at n k
         cur = [];
         here = omega arith;
         answer = r .answer ∙ ap (resume (r .done) (r .cur)) g ∙ resume-last (r .done) (r .cur) c _;
-        cells-are = take-set-le (n + 1) (set t n c) (32768 + (k + 1)) (n + 1) (omega arith) ∙ stored c (omega arith) ∙ sym (flat c);
+        cells-are = take-set-le (n + 1) (set t n c) (rowStarts + (k + 1)) (n + 1) (omega arith) ∙ stored c (omega arith) ∙ sym (flat c);
         starts-are =
-            section-store (set t n c) 32768 (k + 1) (n + 1) (omega arith)
+            section-store (set t n c) rowStarts (k + 1) (n + 1) (omega arith)
             ∙ ap (λ (l : List ℕ). l ++ ((n + 1) ∷ [])) (kept c m)
             ∙ sym (offsets-more (r .done) 0 _ ∙ ap (λ (v : ℕ). offsets 0 (r .done) ++ (v ∷ [])) (rw (zero-add, counted c)));
         n-is = ap length (flat c) ∙ counted c;
@@ -167,7 +170,7 @@ module _ {s t₀ t : List ℕ} {at n k inRow : ℕ} (r : Reading s t₀ t at n k
         in-row = refl;
         few-cells = omega arith;
         few-rows = omega arith;
-        long = length-set (set t n c) (32768 + (k + 1)) (n + 1) ∙ long ∙ r .long;
+        long = length-set (set t n c) (rowStarts + (k + 1)) (n + 1) ∙ long ∙ r .long;
       }
 
   -- at the end of the sheet: between rows, the rows are all; inside one, the sheet is broken
@@ -198,9 +201,9 @@ Answered s t a =
 
 pub answer-broken : (s t : List ℕ) → cellsOf s ≡ none → Answered s t Broken
 unfolding asLexed
-answer-broken s t e = (sym (ap asLexed e), λ rs g. absurd (some-none g e))
+answer-broken s t e = (sym (ap asLexed e), λ rs g. some-ne-none g e)
 
-pub answer-whole : {s t₀ t : List ℕ} {at n k inRow : ℕ} → Reading s t₀ t at n k inRow → length s ≤ 65536 → length s ≤ at → inRow ≡ 0 → Answered s t (Rows k)
+pub answer-whole : {s t₀ t : List ℕ} {at n k inRow : ℕ} → Reading s t₀ t at n k inRow → length s ≤ byteLimit → length s ≤ at → inRow ≡ 0 → Answered s t (Rows k)
 unfolding asLexed
 answer-whole {s} {t} {n} {k} r l h z =
     let e = at-end r h z in
@@ -209,7 +212,7 @@ answer-whole {s} {t} {n} {k} r l h z =
     let held : Holds (r .done) t =
     record {
       cells-begin = ap (λ (m : ℕ). take m t) count ∙ r .cells-are ∙ flat;
-      starts-begin = ap (λ (m : ℕ). take (m + 1) (drop 32768 t)) (r .k-is) ∙ r .starts-are;
+      starts-begin = ap (λ (m : ℕ). take (m + 1) (drop rowStarts t)) (r .k-is) ∙ r .starts-are;
       few-cells = omega arith;
       few-rows = omega arith;
     } in

@@ -3,9 +3,11 @@ ghost use mathlib.Core.Path.{_≡_};
 ghost use Prim.Native.Nat.{_<_, _≤_};
 ghost use lib.Dec.{eqb};
 ghost use lib.ListN.{length};
-ghost use Rattle.rules.specs.Cells.{find, marks, numberOf, markedOf, wordOf, cellOf};
+ghost use Rattle.rules.specs.Cells.{find, marks, numberOf, markedOf, wordOf, cellOf, wordMark};
 ghost use Rattle.sheet.specs.Packing.{pack, findNum, packed};
 ghost use Rattle.sheet.specs.Answers.{asNum};
+use entity::cells::Mark;
+use entity::cells::Number;
 
 pub enum Num {
     Is(u32),
@@ -13,7 +15,7 @@ pub enum Num {
 }
 
 // The number that all of f is.
-pub fn number(f: &[u8]) -> Num
+fn number(f: &[u8]) -> Num
     ensures { λ r. ⌜ r ≡ asNum (numberOf (now (f .entry))) ⌝ }
 {
     let n = f.len();
@@ -45,7 +47,7 @@ pub fn number(f: &[u8]) -> Num
 }
 
 // Which mark a byte is, in hundred thousands of the cell.
-pub fn mark(b: u8) -> Num
+fn mark(b: u8) -> Num
     ensures { λ r. ⌜ r ≡ asNum (find (eqb b) 2 marks) ⌝ }
 {
     match b {
@@ -59,7 +61,7 @@ pub fn mark(b: u8) -> Num
 }
 
 // The place or constraint that all of f is.
-pub fn marked(f: &[u8]) -> Num
+fn marked(f: &[u8]) -> Num
     ensures { λ r. ⌜ r ≡ asNum (markedOf (now (f .entry))) ⌝ }
 {
     if f.len() == 0 {
@@ -67,7 +69,7 @@ pub fn marked(f: &[u8]) -> Num
     }
     match mark(f[0]) {
         Num::Is(k) => match number(&f[1..]) {
-            Num::Is(v) => Num::Is(k * 100000 + v),
+            Num::Is(v) => Num::Is(k * Number::LIMIT + v),
             Num::Nothing => Num::Nothing,
         },
         Num::Nothing => Num::Nothing,
@@ -132,17 +134,17 @@ const KEYS: [u64; 37] = [
 
 fn lookup(w: u64) -> Num
     requires { ⌜ 0 < w ⌝ }
-    ensures { λ r. ⌜ r ≡ asNum (findNum w 100000 packed) ⌝ }
+    ensures { λ r. ⌜ r ≡ asNum (findNum w wordMark packed) ⌝ }
 {
     let k = (w % 151257 % 37) as usize;
     let x = KEYS[k];
     if x / 32 == w {
-        return Num::Is(100000 + (x % 32) as u32);
+        return Num::Is(Mark::WORD + (x % 32) as u32);
     }
     Num::Nothing
 }
 
-pub fn word(f: &[u8]) -> Num
+fn word(f: &[u8]) -> Num
     ensures { λ r. ⌜ r ≡ asNum (wordOf (now (f .entry))) ⌝ }
 {
     if 7 < f.len() {

@@ -4,16 +4,8 @@ ghost use Rattle.rules.specs.Rows.{sheetOk};
 ghost use Rattle.sheet.specs.Grammar.{beginsKind, goesOnKind, follows};
 ghost use Rattle.table.specs.Table.{rowsIn};
 use crate::shapes::row_ok;
-use crate::words::BLOCK;
-use crate::words::CLOB;
-use crate::words::EDIT;
-use crate::words::OP;
-use crate::words::PARAM;
-use crate::words::PRED;
-use crate::words::REG;
-use crate::words::SLOTS;
-use crate::words::SUCC;
 use bits::tables::read_u32;
+use entity::cells::Word;
 use table::rows::row;
 
 // A first field n where its kind begins.
@@ -21,8 +13,8 @@ fn begins(kind: u32, n: u32) -> bool
     ensures { λ r. ⌜ r ≡ beginsKind kind n ⌝ }
 {
     match kind {
-        REG..=BLOCK => n == 0,
-        SLOTS | SUCC..=EDIT => true,
+        Word::REG..=Word::BLOCK => n == 0,
+        Word::SLOTS | Word::SUCC..=Word::EDIT => true,
         _ => false,
     }
 }
@@ -32,10 +24,10 @@ fn goes_on(kind: u32, x: u32, n: u32) -> bool
     ensures { λ r. ⌜ r ≡ goesOnKind kind x n ⌝ }
 {
     match kind {
-        REG..=BLOCK => n as u64 == x as u64 + 1,
-        SUCC | PRED | CLOB => x < n,
-        PARAM | OP => x <= n,
-        EDIT => true,
+        Word::REG..=Word::BLOCK => n as u64 == x as u64 + 1,
+        Word::SUCC | Word::PRED | Word::CLOB => x < n,
+        Word::PARAM | Word::OP => x <= n,
+        Word::EDIT => true,
         _ => false,
     }
 }
@@ -53,7 +45,7 @@ pub fn sheet_ok(t: &[u32], n: u32) -> bool
     if n == 0 {
         return false;
     }
-    if read_u32(row(t, 0), 0) != SLOTS {
+    if read_u32(row(t, 0), 0) != Word::SLOTS {
         return false;
     }
     let mut p: u32 = 0;

@@ -6,28 +6,30 @@ ghost use mathlib.Core.List.{List};
 ghost use Prim.Native.Nat.{ℕ, _+_, _<_, _≤_};
 ghost use lib.Dec.{ltb};
 ghost use lib.ListN.{length};
+ghost use Rattle.rules.specs.Words.{slotsWord};
 ghost use Rattle.rules.specs.Rows.{kind};
+ghost use Rattle.table.specs.Layout.{tableLength};
 ghost use Rattle.table.specs.Table.{Holds, Rising, Indexed};
 ghost use Rattle.table.specs.Rows.{rowIn};
-use crate::words::SLOTS;
 use bits::tables::read_u32;
+use entity::cells::Word;
 use table::INDEX;
 use table::rows::row;
 
 // There is a row i, and its kind comes before the k-th.
 fn earlier(t: &[u32], n: u32, i: u32, k: usize) -> bool
     requires { ⌜ k < 14 ⌝ }
-    ensures { λ r. ⌜ r ≡ (ltb i n && ltb (kind (rowIn (now (t .entry)) i)) (100001 + k)) ⌝ }
+    ensures { λ r. ⌜ r ≡ (ltb i n && ltb (kind (rowIn (now (t .entry)) i)) (slotsWord + k)) ⌝ }
 {
     if i < n {
-        read_u32(row(t, i), 0) < SLOTS + k as u32
+        read_u32(row(t, i), 0) < Word::SLOTS + k as u32
     } else {
         false
     }
 }
 
 pub fn index(t: &mut [u32], n: u32)
-    requires { ⌜ 56536 ≤ length (now t) ⌝ }
+    requires { ⌜ tableLength ≤ length (now t) ⌝ }
     ensures { λ _. ⌜ ((rs : List (List ℕ)) → Holds rs (now (t .entry)) → length rs ≡ n → Rising rs → Indexed rs (now (t .exit))) ⌝ }
 {
     let mut i: u32 = 0;

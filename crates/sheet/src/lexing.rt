@@ -4,8 +4,10 @@ ghost use mathlib.Core.List.{List};
 ghost use mathlib.Core.Option.{some};
 ghost use Prim.Native.Nat.{ℕ, _+_, _≤_};
 ghost use lib.ListN.{length, drop};
+ghost use Rattle.entity.specs.Limits.{byteLimit};
 ghost use Rattle.rules.specs.Rows.{cellsOf};
 ghost use Rattle.sheet.specs.Answers.{upTo, fieldAt, asLexed};
+ghost use Rattle.table.specs.Layout.{tableLength};
 ghost use Rattle.table.specs.Table.{Holds};
 use crate::fields::Num;
 use table::STARTS;
@@ -69,8 +71,8 @@ fn field(s: &[u8], at: usize) -> Piece
 
 // The whole sheet: its cells from 0 on, one after the other, and from STARTS on where each row starts, with the end of the last.
 pub fn rows(s: &[u8], t: &mut [u32]) -> Lexed
-    requires { ⌜ 56536 ≤ length (now t) ⌝ }
-    requires { ⌜ length (now s) ≤ 65536 ⌝ }
+    requires { ⌜ tableLength ≤ length (now t) ⌝ }
+    requires { ⌜ length (now s) ≤ byteLimit ⌝ }
     ensures { λ r. ⌜ r ≡ asLexed (cellsOf (now (s .entry))) ⌝ }
     ensures { λ _. ⌜ ((rs : List (List ℕ)) → cellsOf (now (s .entry)) ≡ some rs → Holds rs (now (t .exit))) ⌝ }
 {

@@ -9,7 +9,9 @@ ghost use lib.Dec.{leb};
 ghost use lib.ListN.{length};
 ghost use Rattle.rules.specs.Rows.{rowsOf};
 ghost use Rattle.rules.specs.Sheets.{isSome};
+ghost use Rattle.table.specs.Layout.{tableLength};
 ghost use Rattle.table.specs.Table.{Indexed};
+use entity::numbers::SheetByte;
 use lexing::Lexed;
 use table::LENGTH;
 
@@ -18,16 +20,18 @@ mod grammar;
 mod kinds;
 mod lexing;
 mod shapes;
-mod words;
+
+// The most bytes of a sheet.
+const BYTES: usize = SheetByte::LIMIT as usize;
 
 pub fn read(sheet: &[u8], t: &mut [u32]) -> bool
-    ensures { λ r. ⌜ r ≡ (leb 56536 (length (now (t .entry))) && isSome (rowsOf (now (sheet .entry)))) ⌝ }
-    ensures { λ _. ⌜ ((rs : List (List ℕ)) → rowsOf (now (sheet .entry)) ≡ some rs → 56536 ≤ length (now (t .entry)) → Indexed rs (now (t .exit))) ⌝ }
+    ensures { λ r. ⌜ r ≡ (leb tableLength (length (now (t .entry))) && isSome (rowsOf (now (sheet .entry)))) ⌝ }
+    ensures { λ _. ⌜ ((rs : List (List ℕ)) → rowsOf (now (sheet .entry)) ≡ some rs → tableLength ≤ length (now (t .entry)) → Indexed rs (now (t .exit))) ⌝ }
 {
     if t.len() < LENGTH {
         return false;
     }
-    if 65536 < sheet.len() {
+    if BYTES < sheet.len() {
         return false;
     }
     match lexing::rows(sheet, t) {

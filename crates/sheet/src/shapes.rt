@@ -5,71 +5,52 @@ ghost use Rattle.laws.specs.Lists.{all};
 ghost use Rattle.rules.specs.Rows.{fieldOk, number, flag, dash, numberOrDash, place, constraint};
 ghost use Rattle.rules.specs.Rows.{fits, end, list, list₁, _▸_, opShape, editShape, rowOk};
 ghost use Rattle.sheet.specs.Grammar.{plainOp, fixedOp, moveEdit, rematEdit, pairEdit, noneEdit, fitsKind};
-use crate::words::BLOCK;
-use crate::words::CLASS;
-use crate::words::CLOB;
-use crate::words::DASH;
-use crate::words::DEF;
-use crate::words::EARLYG;
-use crate::words::EDIT;
-use crate::words::ERELOAD;
-use crate::words::ESPILL;
-use crate::words::FIXED;
-use crate::words::GROUP;
-use crate::words::MOVE;
-use crate::words::NONE;
-use crate::words::OP;
-use crate::words::PARAM;
-use crate::words::PRED;
-use crate::words::REG;
-use crate::words::REMAT;
-use crate::words::SLOTS;
-use crate::words::SUCC;
-use crate::words::VALUE;
-use crate::words::VGROUP;
+use entity::cells::Mark;
+use entity::cells::Number;
+use entity::cells::Word;
 
-pub fn number(c: u32) -> bool
+fn number(c: u32) -> bool
     ensures { λ r. ⌜ r ≡ fieldOk number c ⌝ }
 {
-    c < 100000
+    c < Number::LIMIT
 }
 
-pub fn flag(c: u32) -> bool
+fn flag(c: u32) -> bool
     ensures { λ r. ⌜ r ≡ fieldOk flag c ⌝ }
 {
     c < 2
 }
 
-pub fn dash(c: u32) -> bool
+fn dash(c: u32) -> bool
     ensures { λ r. ⌜ r ≡ fieldOk dash c ⌝ }
 {
-    c == DASH
+    c == Word::DASH
 }
 
-pub fn number_or_dash(c: u32) -> bool
+fn number_or_dash(c: u32) -> bool
     ensures { λ r. ⌜ r ≡ fieldOk numberOrDash c ⌝ }
 {
-    (c < 100000) | (c == DASH)
+    (c < Number::LIMIT) | (c == Word::DASH)
 }
 
-pub fn place(c: u32) -> bool
+fn place(c: u32) -> bool
     ensures { λ r. ⌜ r ≡ fieldOk place c ⌝ }
 {
-    (200000 <= c) & (c < 400000)
+    (Mark::REG <= c) & (c < Mark::CLASS)
 }
 
-pub fn constraint(c: u32) -> bool
+fn constraint(c: u32) -> bool
     ensures { λ r. ⌜ r ≡ fieldOk constraint c ⌝ }
 {
-    (400000 <= c) & (c < 700000)
+    (Mark::CLASS <= c) & (c < Mark::END)
 }
 
-pub fn numbers(cs: &[u32]) -> bool
+fn numbers(cs: &[u32]) -> bool
     ensures { λ r. ⌜ r ≡ all (fieldOk number) (now (cs .entry)) ⌝ }
 {
     let mut i = 0;
     while i < cs.len() {
-        if 100000 <= cs[i] {
+        if Number::LIMIT <= cs[i] {
             return false;
         }
         i += 1;
@@ -77,13 +58,13 @@ pub fn numbers(cs: &[u32]) -> bool
     true
 }
 
-pub fn slots(cs: &[u32]) -> bool
+fn slots(cs: &[u32]) -> bool
     ensures { λ r. ⌜ r ≡ fits (number ▸ end) (now (cs .entry)) ⌝ }
 {
     if cs.len() == 1 { number(cs[0]) } else { false }
 }
 
-pub fn reg(cs: &[u32]) -> bool
+fn reg(cs: &[u32]) -> bool
     ensures { λ r. ⌜ r ≡ fits (number ▸ flag ▸ list₁) (now (cs .entry)) ⌝ }
 {
     if cs.len() < 3 {
@@ -92,7 +73,7 @@ pub fn reg(cs: &[u32]) -> bool
     number(cs[0]) & flag(cs[1]) & numbers(&cs[2..])
 }
 
-pub fn class(cs: &[u32]) -> bool
+fn class(cs: &[u32]) -> bool
     ensures { λ r. ⌜ r ≡ fits (number ▸ flag ▸ list) (now (cs .entry)) ⌝ }
 {
     if cs.len() < 2 {
@@ -101,7 +82,7 @@ pub fn class(cs: &[u32]) -> bool
     number(cs[0]) & flag(cs[1]) & numbers(&cs[2..])
 }
 
-pub fn group(cs: &[u32]) -> bool
+fn group(cs: &[u32]) -> bool
     ensures { λ r. ⌜ r ≡ fits (number ▸ number ▸ list₁) (now (cs .entry)) ⌝ }
 {
     if cs.len() < 3 {
@@ -110,7 +91,7 @@ pub fn group(cs: &[u32]) -> bool
     number(cs[0]) & number(cs[1]) & numbers(&cs[2..])
 }
 
-pub fn value(cs: &[u32]) -> bool
+fn value(cs: &[u32]) -> bool
     ensures { λ r. ⌜ r ≡ fits (number ▸ numberOrDash ▸ end) (now (cs .entry)) ⌝ }
 {
     if cs.len() == 2 {
@@ -120,7 +101,7 @@ pub fn value(cs: &[u32]) -> bool
     }
 }
 
-pub fn block(cs: &[u32]) -> bool
+fn block(cs: &[u32]) -> bool
     ensures { λ r. ⌜ r ≡ fits (number ▸ number ▸ numberOrDash ▸ flag ▸ end) (now (cs .entry)) ⌝ }
 {
     if cs.len() == 4 {
@@ -131,7 +112,7 @@ pub fn block(cs: &[u32]) -> bool
 }
 
 // `vgroup`, `succ`, `pred` and `clob`.
-pub fn listed(cs: &[u32]) -> bool
+fn listed(cs: &[u32]) -> bool
     ensures { λ r. ⌜ r ≡ fits (number ▸ list₁) (now (cs .entry)) ⌝ }
 {
     if cs.len() < 2 {
@@ -140,7 +121,7 @@ pub fn listed(cs: &[u32]) -> bool
     number(cs[0]) & numbers(&cs[1..])
 }
 
-pub fn param(cs: &[u32]) -> bool
+fn param(cs: &[u32]) -> bool
     ensures { λ r. ⌜ r ≡ fits (number ▸ number ▸ place ▸ end) (now (cs .entry)) ⌝ }
 {
     if cs.len() == 3 {
@@ -153,16 +134,20 @@ pub fn param(cs: &[u32]) -> bool
 fn plain(inst: u32, kind: u32, subject: u32, by: u32, at: u32) -> bool
     ensures { λ r. ⌜ r ≡ fits plainOp (inst ∷ kind ∷ subject ∷ by ∷ at ∷ []) ⌝ }
 {
-    number(inst) & ((DEF <= kind) & (kind <= EARLYG)) & number(subject) & constraint(by) & place(at)
+    number(inst)
+        & ((Word::DEF <= kind) & (kind <= Word::EARLYG))
+        & number(subject)
+        & constraint(by)
+        & place(at)
 }
 
 fn fixed(inst: u32, kind: u32, subject: u32, by: u32, at: u32) -> bool
     ensures { λ r. ⌜ r ≡ fits fixedOp (inst ∷ kind ∷ subject ∷ by ∷ at ∷ []) ⌝ }
 {
-    number(inst) & (kind == FIXED) & dash(subject) & constraint(by) & place(at)
+    number(inst) & (kind == Word::FIXED) & dash(subject) & constraint(by) & place(at)
 }
 
-pub fn op(cs: &[u32]) -> bool
+fn op(cs: &[u32]) -> bool
     ensures { λ r. ⌜ r ≡ fits opShape (now (cs .entry)) ⌝ }
 {
     if cs.len() == 5 {
@@ -175,26 +160,30 @@ pub fn op(cs: &[u32]) -> bool
 fn moved(inst: u32, kind: u32, to: u32, from: u32, value: u32) -> bool
     ensures { λ r. ⌜ r ≡ fits moveEdit (inst ∷ kind ∷ to ∷ from ∷ value ∷ []) ⌝ }
 {
-    number(inst) & (kind == MOVE) & place(to) & place(from) & number(value)
+    number(inst) & (kind == Word::MOVE) & place(to) & place(from) & number(value)
 }
 
 fn remat(inst: u32, kind: u32, to: u32, from: u32, value: u32) -> bool
     ensures { λ r. ⌜ r ≡ fits rematEdit (inst ∷ kind ∷ to ∷ from ∷ value ∷ []) ⌝ }
 {
-    number(inst) & (kind == REMAT) & place(to) & dash(from) & number(value)
+    number(inst) & (kind == Word::REMAT) & place(to) & dash(from) & number(value)
 }
 
 // `espill` and `ereload`.
 fn pair(inst: u32, kind: u32, to: u32, from: u32, value: u32) -> bool
     ensures { λ r. ⌜ r ≡ fits pairEdit (inst ∷ kind ∷ to ∷ from ∷ value ∷ []) ⌝ }
 {
-    number(inst) & ((ESPILL <= kind) & (kind <= ERELOAD)) & place(to) & place(from) & dash(value)
+    number(inst)
+        & ((Word::ESPILL <= kind) & (kind <= Word::ERELOAD))
+        & place(to)
+        & place(from)
+        & dash(value)
 }
 
 fn none(inst: u32, kind: u32, to: u32, from: u32, value: u32) -> bool
     ensures { λ r. ⌜ r ≡ fits noneEdit (inst ∷ kind ∷ to ∷ from ∷ value ∷ []) ⌝ }
 {
-    number(inst) & (kind == NONE) & dash(to) & dash(from) & dash(value)
+    number(inst) & (kind == Word::NONE) & dash(to) & dash(from) & dash(value)
 }
 
 fn edited(inst: u32, kind: u32, to: u32, from: u32, value: u32) -> bool
@@ -205,7 +194,7 @@ fn edited(inst: u32, kind: u32, to: u32, from: u32, value: u32) -> bool
             | (pair(inst, kind, to, from, value) | none(inst, kind, to, from, value)))
 }
 
-pub fn edit(cs: &[u32]) -> bool
+fn edit(cs: &[u32]) -> bool
     ensures { λ r. ⌜ r ≡ fits editShape (now (cs .entry)) ⌝ }
 {
     if cs.len() == 5 {
@@ -220,19 +209,19 @@ fn after(kind: u32, cs: &[u32]) -> bool
     ensures { λ r. ⌜ r ≡ fitsKind kind (now (cs .entry)) ⌝ }
 {
     match kind {
-        SLOTS => slots(cs),
-        REG => reg(cs),
-        CLASS => class(cs),
-        GROUP => group(cs),
-        VALUE => value(cs),
-        VGROUP => listed(cs),
-        BLOCK => block(cs),
-        SUCC => listed(cs),
-        PRED => listed(cs),
-        PARAM => param(cs),
-        OP => op(cs),
-        CLOB => listed(cs),
-        EDIT => edit(cs),
+        Word::SLOTS => slots(cs),
+        Word::REG => reg(cs),
+        Word::CLASS => class(cs),
+        Word::GROUP => group(cs),
+        Word::VALUE => value(cs),
+        Word::VGROUP => listed(cs),
+        Word::BLOCK => block(cs),
+        Word::SUCC => listed(cs),
+        Word::PRED => listed(cs),
+        Word::PARAM => param(cs),
+        Word::OP => op(cs),
+        Word::CLOB => listed(cs),
+        Word::EDIT => edit(cs),
         _ => false,
     }
 }

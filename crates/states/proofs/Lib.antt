@@ -1,3 +1,7 @@
 pub mod Spans
-pub mod Stated
+pub mod Cells
+pub mod FirstStates
+pub mod Meeting
+pub mod TakingIn
+pub mod HandingOn
 pub mod Starting

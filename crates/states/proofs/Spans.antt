@@ -1,42 +1,22 @@
--- Loops that store into a part of a list, one place a turn; and parts by their elements. Assumes nothing.
+-- The loops of src/handed.rt that store into a part of a list, one place a turn; and parts by their elements. Assumes nothing.
 use mathlib.Core.Path.{_≡_, refl, sym, ap, _∙_}
 use mathlib.Core.Bool.{Bool, true, false, not, _||_}
 use mathlib.Core.List.{List, [], _∷_, map, zipWith}
 use Prim.Native.Nat.{ℕ, zero, suc, _+_, _-_, _*_, _≤_, _<_}
 use native.Mathlib.Omega.{arith}
-use lib.ListN.{length, getD, set, take, drop, replicate, length-set, length-take, length-drop, length-replicate, getD-replicate}
+use lib.ListN.{length, getD, set, take, drop, replicate, length-take, length-drop, length-replicate, getD-replicate}
 use lib.Dec.{eqb}
 use borrow.Author.Tests.{eq-eqb, ne-eqb}
 use native.Mathlib.Numerals.{add-one}
-use lib.Seq.{ext-getD, getD-set-same, getD-set-other, getD-take, getD-drop}
+use lib.Seq.{ext-getD, getD-take, getD-drop}
 use Rattle.laws.specs.Fold.{run}
 use Rattle.laws.specs.Lists.{from}
 use Rattle.laws.proofs.Cases.{by-eq}
+use Rattle.laws.proofs.Lists.{run-more}
+pub use Rattle.laws.specs.Spans.{Span}
+pub use Rattle.laws.proofs.Lists.{span-none, span-store}
 use Rattle.table.proofs.Loops.{never}
 use Rattle.record.specs.Flat.{section}
-
--- l′ is l with f j stored at `at` + j for each j below i
-pub record Span (at : ℕ) (f : ℕ → ℕ) (l : List ℕ) (i : ℕ) (l′ : List ℕ) : Type 0 where
-  pub long : length l′ ≡ length l
-  pub done : (j : ℕ) → j < i → getD l′ (at + j) 0 ≡ f j
-  pub before : (k : ℕ) → k < at → getD l′ k 0 ≡ getD l k 0
-  pub behind : (k : ℕ) → at + i ≤ k → getD l′ k 0 ≡ getD l k 0
-
-module _ (at : ℕ) (f : ℕ → ℕ) (l : List ℕ) where
-  pub span-none : Span at f l 0 l
-  span-none = record { long = refl; done = λ j h. absurd (omega arith); before = λ k h. refl; behind = λ k h. refl }
-
-  pub span-store : (i : ℕ) (l′ : List ℕ) (v : ℕ) → Span at f l i l′ → v ≡ f i → at + i < length l → Span at f l (i + 1) (set l′ (at + i) v)
-  span-store i l′ v p e h =
-      let m : length l′ ≡ length l = p .long in
-      record {
-        long = length-set l′ (at + i) v ∙ m;
-        done = λ j u.
-            by-eq j i (λ q. rw (q, getD-set-same l′ (at + i) v 0 (omega arith)) e)
-            (λ n. getD-set-other l′ (at + i) (at + j) v 0 (λ q. n (omega arith)) ∙ p .done j (omega arith));
-        before = λ k u. getD-set-other l′ (at + i) k v 0 (λ q. omega arith) ∙ p .before k u;
-        behind = λ k u. getD-set-other l′ (at + i) k v 0 (λ q. omega arith) ∙ p .behind k (omega arith);
-      }
 
 -- the part at the front
 pub span-front : (f : ℕ → ℕ) (l : List ℕ) (i : ℕ) (l′ : List ℕ) (v : ℕ) → Span 0 f l i l′ → v ≡ f i → i < length l → Span 0 f l (i + 1) (set l′ i v)
@@ -117,10 +97,5 @@ module _ {S A : Type 0} (f : S → A → S) (d : A) where
 
 -- the same over the numbers from 0 on
 module _ {S : Type 0} (f : S → ℕ → S) where
-  run-more : (s : S) (a n : ℕ) → run f s (from a (suc n)) ≡ f (run f s (from a n)) (a + n)
-  unfolding run from
-  run-more s a zero = ap (f s) (omega arith)
-  run-more s a (suc n) = run-more (f s a) (suc a) n ∙ ap (f (run f (f s a) (from (suc a) n))) (omega arith)
-
   pub run-from : (s : S) (n : ℕ) → run f s (from 0 (n + 1)) ≡ f (run f s (from 0 n)) n
-  run-from s n = ap (λ (m : ℕ). run f s (from 0 m)) (add-one n) ∙ run-more s 0 n ∙ ap (f (run f s (from 0 n))) (omega arith)
+  run-from s n = ap (λ (m : ℕ). run f s (from 0 m)) (add-one n) ∙ run-more f s 0 n ∙ ap (f (run f s (from 0 n))) (omega arith)

@@ -1,37 +1,41 @@
--- The states that the levels start with. Assumes nothing.
+-- The states that the levels start with: src/starts.rt does what the rules `forwardStart` and `globalStart` say. Assumes nothing.
 use mathlib.Core.Path.{_≡_, refl, sym, ap, _∙_}
 use mathlib.Core.Bool.{Bool, true, false, cond, _&&_, _||_, and-false, or-false}
 use mathlib.Core.List.{List, [], _∷_, map}
 use mathlib.Core.Option.{Option, none, some}
-use Prim.Native.Nat.{ℕ, zero, suc, _+_, _*_, _≤_, _<_}
+use Prim.Native.Nat.{ℕ, _+_, _*_, _≤_, _<_}
 use native.Mathlib.Omega.{arith}
 use lib.ListN.{length, getD, set}
 use lib.Seq.{ext-getD, getD-set-same, getD-set-other}
 use lib.Dec.{eqb, leb, ltb}
 use borrow.Author.Tests.{lt-ltb, le-ltb, eq-eqb, ne-eqb, not-true}
-use Rattle.laws.proofs.Cases.{by-bool, by-eq, by-lt, eqb-same}
+use Rattle.laws.proofs.Cases.{by-eq, by-lt, eqb-same}
 use Rattle.laws.proofs.Words.{has-wordsOf}
-use Rattle.laws.specs.Lists.{any, keep, isIn, from}
+use Rattle.laws.specs.Lists.{any, isIn, from}
+use Rattle.laws.proofs.Lists.{keep-in}
 use Rattle.bits.specs.Sets.{has, setOf}
 use Rattle.bits.specs.declared.sets.NumberSet.{NumberSet}
+use Rattle.entity.specs.Limits.{blockLimit}
 use Rattle.rules.specs.Sheet.{Sheet, blockCount, predsOf}
 use Rattle.rules.specs.Accept.{isEntry}
-use Rattle.rules.specs.Forward.{Known, Handed, nothing, beginsEmpty, forwardStart, globalStart}
+use Rattle.rules.specs.Record.{Known, nothing}
+use Rattle.rules.specs.Forward.{Handed, beginsEmpty, forwardStart, globalStart}
 use Rattle.table.proofs.Sheets.{members-long, members-at}
+use Rattle.states.specs.Layout.{knownSize}
 use Rattle.states.specs.States.{Roomy, knownAt, isSet, stateIn, statesIn, Sets, Lies, Unset, Started, Waits}
-use Rattle.states.proofs.Stated.{states-long, states-at}
+use Rattle.states.proofs.Cells.{states-long, states-at}
 
 -- a block's state, where one is set
-pub sets-at : (s s′ : List ℕ) (b : ℕ) (k : Known) → Sets s s′ b k → (c : ℕ) → c < 64 → stateIn s′ c ≡ cond (eqb c b) (some k) (stateIn s c)
+pub sets-at : (s s′ : List ℕ) (b : ℕ) (k : Known) → Sets s s′ b k → (c : ℕ) → c < blockLimit → stateIn s′ c ≡ cond (eqb c b) (some k) (stateIn s c)
 sets-at s s′ b k p c h =
-    let m : length (statesIn s 64) ≡ 64 = states-long s 64 in
-    sym (states-at s′ 64 c h) ∙ ap (λ (l : List (Option Known)). getD l c none) (p .are 64 (omega arith))
+    let m : length (statesIn s blockLimit) ≡ blockLimit = states-long s blockLimit in
+    sym (states-at s′ blockLimit c h) ∙ ap (λ (l : List (Option Known)). getD l c none) (p .are blockLimit (omega arith))
     ∙ by-eq c b
     (λ q.
-    let x : getD (set (statesIn s 64) b (some k)) c none ≡ some k = rw q (getD-set-same (statesIn s 64) b (some k) none (omega arith)) in
+    let x : getD (set (statesIn s blockLimit) b (some k)) c none ≡ some k = rw q (getD-set-same (statesIn s blockLimit) b (some k) none (omega arith)) in
     x ∙ sym (ap (λ (t : Bool). cond t (some k) (stateIn s c)) (eq-eqb c b q)))
     (λ d.
-    getD-set-other (statesIn s 64) b c (some k) none d ∙ states-at s 64 c h
+    getD-set-other (statesIn s blockLimit) b c (some k) none d ∙ states-at s blockLimit c h
     ∙ sym (ap (λ (t : Bool). cond t (some k) (stateIn s c)) (ne-eqb c b d)))
 
 -- the test of a block below i + 1
@@ -45,7 +49,7 @@ module _ (f : ℕ → Bool) where
   start-none s p =
       record {
         room = p .room;
-        are = λ b h. ap (λ (t : Bool). cond t (some (knownAt s (b * 192))) none) (p .none b) ∙ sym (ap (λ (t : Bool). cond (t && f b) (some nothing) none) (le-ltb b 0 (omega arith)));
+        are = λ b h. ap (λ (t : Bool). cond t (some (knownAt s (b * knownSize))) none) (p .none b) ∙ sym (ap (λ (t : Bool). cond (t && f b) (some nothing) none) (le-ltb b 0 (omega arith)));
       }
 
   module _ (i : ℕ) (s s′ : List ℕ) (p : Started f s i) where
@@ -75,7 +79,7 @@ module _ (f : ℕ → Bool) where
               (by-eq c i (λ z. rw (z, e, and-false (ltb i i), and-false (ltb i (i + 1)))) (λ d. sym (next-at f i c d)));
         }
 
-  pub start-end : (n : ℕ) (s : List ℕ) → n ≤ 64 → Started f s n → statesIn s n ≡ map (λ b. cond (f b) (some nothing) none) (from 0 n)
+  pub start-end : (n : ℕ) (s : List ℕ) → n ≤ blockLimit → Started f s n → statesIn s n ≡ map (λ b. cond (f b) (some nothing) none) (from 0 n)
   start-end n s h p =
       ext-getD none (statesIn s n) (map (λ b. cond (f b) (some nothing) none) (from 0 n)) (states-long s n ∙ sym (members-long (λ b. cond (f b) (some nothing) none) n))
       (λ c u.
@@ -101,33 +105,9 @@ module _ (f : ℕ → Bool) where
     pub waits-no : f i ≡ false → Waits f w (i + 1)
     waits-no e c u = p c u ∙ by-eq c i (λ z. rw (z, e, and-false (ltb i i), and-false (ltb i (i + 1)))) (λ d. sym (next-at f i c d))
 
-  keep-past : (a n c : ℕ) → c < a → isIn c (keep f (from a n)) ≡ false
-  unfolding isIn any keep from
-  keep-past a zero c h = refl
-  keep-past a (suc n) c h =
-      let rest = keep-past (suc a) n c (omega arith) in
-      by-bool (f a) (λ e. rw (e, ne-eqb c a (λ q. omega arith)) rest) (λ e. rw e rest)
-
-  keep-more : (a n c : ℕ) → a ≤ c → isIn c (keep f (from a n)) ≡ (ltb c (a + n) && f c)
-  unfolding isIn any keep from
-  keep-more a zero c h = sym (ap (λ (t : Bool). t && f c) (le-ltb c (a + 0) (omega arith)))
-  keep-more a (suc n) c h =
-      let m : suc a + n ≡ a + suc n = omega arith in
-      by-eq c a
-      (λ q.
-      by-bool (f a)
-      (λ e. rw (q, e, eq-eqb a a refl, lt-ltb a (a + suc n) (omega arith)))
-      (λ e. rw (q, e, and-false (ltb a (a + suc n))) (keep-past (suc a) n a (omega arith))))
-      (λ d.
-      let rest : isIn c (keep f (from (suc a) n)) ≡ (ltb c (a + suc n) && f c) = rw m at (keep-more (suc a) n c (omega arith)) in
-      by-bool (f a) (λ e. rw (e, ne-eqb c a d) rest) (λ e. rw e rest))
-
-  pub keep-in : (n c : ℕ) → isIn c (keep f (from 0 n)) ≡ (ltb c n && f c)
-  keep-in n c = keep-more 0 n c (omega arith) ∙ ap (λ (m : ℕ). ltb c m && f c) (omega arith)
-
 -- ---- the levels' starts
 
-module _ (sh : Sheet) (few : blockCount sh ≤ 64) (s : List ℕ) (w : NumberSet) where
+module _ (sh : Sheet) (few : blockCount sh ≤ blockLimit) (s : List ℕ) (w : NumberSet) where
   pub forward-starts : Started (beginsEmpty sh) s (blockCount sh) → w ≡ setOf (λ k. false) → Lies (blockCount sh) s w (forwardStart sh)
   unfolding forwardStart isIn any
   forward-starts p e =

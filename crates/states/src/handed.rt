@@ -6,13 +6,15 @@ ghost use Prim.Native.Nat.{ℕ, _*_, _≤_, _<_};
 ghost use lib.Dec.{eqb};
 ghost use Rattle.laws.specs.Fold.{run};
 ghost use Rattle.laws.specs.Lists.{from};
+ghost use Rattle.entity.specs.Limits.{blockLimit};
 ghost use Rattle.rules.specs.Sheet.{Sheet, regCount, blockCount, succsOf};
-ghost use Rattle.rules.specs.Record.{absent};
-ghost use Rattle.rules.specs.Forward.{Known, Handed, nothing, takeIn, firstState, meet, sameKnown, handTo, handOn};
+ghost use Rattle.rules.specs.Record.{Known, nothing, absent, withKnown, begins};
+ghost use Rattle.rules.specs.Forward.{Handed, writeHeld, takeIn, firstState, meet, sameKnown, handTo, handOn};
 ghost use Rattle.table.specs.Sheet.{sheetIn};
 ghost use Rattle.table.specs.Index.{Ready};
 ghost use Rattle.record.specs.Flat.{changedIn, recordIn, Long, Becomes};
-ghost use Rattle.states.specs.States.{Roomy, knownAt, isSet, stateIn, Sets, begins, withKnown, writeHeld, handedIn, soleIn, Meets, Lies};
+ghost use Rattle.states.specs.Layout.{knownSize, flagsAt, statesLength};
+ghost use Rattle.states.specs.States.{Roomy, knownAt, isSet, stateIn, Sets, handedIn, soleIn, Meets, Lies};
 use entity::numbers::Block;
 use entity::numbers::PhysReg;
 use entity::numbers::SpillSlot;
@@ -37,6 +39,13 @@ pub const FLAGS: usize = KNOWN * Block::LIMIT as usize;
 
 pub const SIZE: usize = FLAGS + Block::LIMIT as usize;
 
+// The layout of the code is the layout of the definitions.
+pub fn layout_agrees()
+    ensures { λ _. do ⌜ (← ⟦KNOWN⟧ .entry) ≡ knownSize ⌝ }
+    ensures { λ _. do ⌜ (← ⟦FLAGS⟧ .entry) ≡ flagsAt ⌝ }
+    ensures { λ _. do ⌜ (← ⟦SIZE⟧ .entry) ≡ statesLength ⌝ }
+{}
+
 fn is_set(states: &[u32; SIZE], b: Block) -> bool
     ensures { λ r. ⌜ r ≡ isSet (now (states .entry)) (b .0) ⌝ }
 {
@@ -48,7 +57,7 @@ fn is_set(states: &[u32; SIZE], b: Block) -> bool
 }
 
 fn mark(states: &mut [u32; SIZE], b: Block)
-    ensures { λ _. ⌜ now (states .exit) ≡ changedIn 12288 64 (b .0) 1 (now (states .entry)) ⌝ }
+    ensures { λ _. ⌜ now (states .exit) ≡ changedIn flagsAt blockLimit (b .0) 1 (now (states .entry)) ⌝ }
 {
     if b.0 < Block::LIMIT {
         let i = FLAGS + b.0 as usize;
@@ -57,7 +66,7 @@ fn mark(states: &mut [u32; SIZE], b: Block)
 }
 
 // Block b begins with nothing known.
-pub fn set_nothing(states: &mut [u32; SIZE], b: Block)
+pub(crate) fn set_nothing(states: &mut [u32; SIZE], b: Block)
     ensures { λ _. ⌜ (Roomy (now (states .entry)) → Sets (now (states .entry)) (now (states .exit)) (b .0) nothing) ⌝ }
 {
     if b.0 < Block::LIMIT {
@@ -84,7 +93,7 @@ pub fn begin_empty(rec: &mut [u32; LENGTH])
 
 // The record takes a block's state in place of its own.
 fn take_known(rec: &mut [u32; LENGTH], states: &[u32; SIZE], b: Block)
-    ensures { λ _. ⌜ (Long (now (rec .entry)) → Roomy (now (states .entry)) → b .0 < 64 → Becomes (now (rec .entry)) (now (rec .exit)) (withKnown (knownAt (now (states .entry)) (b .0 * 192)) (recordIn (now (rec .entry))))) ⌝ }
+    ensures { λ _. ⌜ (Long (now (rec .entry)) → Roomy (now (states .entry)) → b .0 < blockLimit → Becomes (now (rec .entry)) (now (rec .exit)) (withKnown (knownAt (now (states .entry)) (b .0 * knownSize)) (recordIn (now (rec .entry))))) ⌝ }
 {
     if b.0 < Block::LIMIT {
         let at = b.0 as usize * KNOWN;
@@ -98,7 +107,7 @@ fn take_known(rec: &mut [u32; LENGTH], states: &[u32; SIZE], b: Block)
 
 // A register pair also is its units' last write.
 fn write_held(t: &[u32], rec: &mut [u32; LENGTH], r: PhysReg)
-    ensures { λ _. ⌜ (Long (now (rec .entry)) → Becomes (now (rec .entry)) (now (rec .exit)) (writeHeld (sheetIn (now (t .entry))) (recordIn (now (rec .entry)) .held) (recordIn (now (rec .entry))) (r .0))) ⌝ }
+    ensures { λ _. ⌜ (Long (now (rec .entry)) → Becomes (now (rec .entry)) (now (rec .exit)) (writeHeld (sheetIn (now (t .entry))) (recordIn (now (rec .entry)) .known .held) (recordIn (now (rec .entry))) (r .0))) ⌝ }
 {
     let v = held(rec, r);
     if v != NONE {
@@ -107,7 +116,7 @@ fn write_held(t: &[u32], rec: &mut [u32; LENGTH], r: PhysReg)
 }
 
 fn write_all_held(t: &[u32], rec: &mut [u32; LENGTH])
-    ensures { λ _. ⌜ (Long (now (rec .entry)) → Becomes (now (rec .entry)) (now (rec .exit)) (run (writeHeld (sheetIn (now (t .entry))) (recordIn (now (rec .entry)) .held)) (recordIn (now (rec .entry))) (from 0 (regCount (sheetIn (now (t .entry))))))) ⌝ }
+    ensures { λ _. ⌜ (Long (now (rec .entry)) → Becomes (now (rec .entry)) (now (rec .exit)) (run (writeHeld (sheetIn (now (t .entry))) (recordIn (now (rec .entry)) .known .held)) (recordIn (now (rec .entry))) (from 0 (regCount (sheetIn (now (t .entry))))))) ⌝ }
 {
     let n = count(t, Kind::REG);
     let mut r: u32 = 0;
@@ -196,7 +205,7 @@ fn hand_to(
     sole: bool,
     b: Block,
 ) -> BlockSet
-    ensures { λ r. ⌜ ((sh : Sheet) (n a : ℕ) (h : Handed) → Long (now (rec .entry)) → n ≤ 64 → b .0 < n → firstState sh (soleIn sole (b .0)) (recordIn (now (rec .entry))) ≡ firstState sh (succsOf sh a) (recordIn (now (rec .entry))) → Lies n (now (states .entry)) (waiting .0) h → Lies n (now (states .exit)) (r .0) (handTo sh a (recordIn (now (rec .entry))) h (b .0))) ⌝ }
+    ensures { λ r. ⌜ ((sh : Sheet) (n a : ℕ) (h : Handed) → Long (now (rec .entry)) → n ≤ blockLimit → b .0 < n → firstState sh (soleIn sole (b .0)) (recordIn (now (rec .entry))) ≡ firstState sh (succsOf sh a) (recordIn (now (rec .entry))) → Lies n (now (states .entry)) (waiting .0) h → Lies n (now (states .exit)) (r .0) (handTo sh a (recordIn (now (rec .entry))) h (b .0))) ⌝ }
 {
     if is_set(states, b) {
         if meet(rec, states, b) {

@@ -1,15 +1,18 @@
--- Where each kind's rows begin, by counting; and a store past the rows leaves them. Assumes nothing.
+-- For `kindsBegin` of specs/Table.antt: where each kind's rows begin, by counting; and a store past the rows leaves them. Assumes nothing.
 use mathlib.Core.Path.{_≡_, refl, sym, _∙_, ap}
 use mathlib.Core.Bool.{Bool, true, false}
 use mathlib.Core.List.{List, [], _∷_}
-use Prim.Native.Nat.{ℕ, zero, suc, _+_, _<_, _≤_}
+use Prim.Native.Nat.{ℕ, zero, suc, _+_, _-_, _<_, _≤_}
 use native.Mathlib.Nat.{add-zero}
 use native.Mathlib.Omega.{arith}
 use lib.ListN.{length, getD, take, drop, set, List·getD-map}
 use lib.Seq.{take-set-le, drop-set-add}
 use lib.Dec.{ltb}
 use Rattle.laws.specs.Lists.{keep, from}
+use Rattle.laws.proofs.Lists.{getD-any}
+use Rattle.rules.specs.Words.{slotsWord}
 use Rattle.rules.specs.Rows.{kind}
+use Rattle.table.specs.Layout.{kindIndex, rowStarts}
 use Rattle.table.specs.Table.{flatten, kindsBegin, Holds, Rising}
 
 -- ---- counting
@@ -35,7 +38,7 @@ later rs up i (suc d) h =
 -- ---- the list of beginnings
 
 unfoldable pub before : ℕ → List (List ℕ) → ℕ
-before k rs = length (keep (λ r. ltb (kind r) (100001 + k)) rs)
+before k rs = length (keep (λ r. ltb (kind r) (slotsWord + k)) rs)
 
 -- the list from 0 on, at k and as long as it is
 pub from-at : (a n k : ℕ) → k < n → getD (from a n) k 0 ≡ a + k
@@ -44,11 +47,6 @@ from-at a zero k h = absurd (omega arith)
 from-at a (suc n) zero h = sym (add-zero a)
 from-at a (suc n) (suc k) h = from-at (suc a) n k (omega arith) ∙ omega arith
 
-pub any-default : {A : Type 0} (l : List A) (j : ℕ) (a b : A) → j < length l → getD l j a ≡ getD l j b
-any-default [] j a b h = absurd (omega arith)
-any-default (x ∷ l) zero a b h = refl
-any-default (x ∷ l) (suc j) a b h = any-default l j a b (omega arith)
-
 pub long : (rs : List (List ℕ)) → length (kindsBegin rs) ≡ 14
 unfolding kindsBegin from
 long rs = refl
@@ -56,20 +54,20 @@ long rs = refl
 pub begin-at : (rs : List (List ℕ)) (k : ℕ) → k < 14 → getD (kindsBegin rs) k 0 ≡ before k rs
 unfolding kindsBegin before
 begin-at rs k h =
-    any-default (kindsBegin rs) k 0 (before 0 rs) (rw (long rs) h)
+    getD-any (kindsBegin rs) k 0 (before 0 rs) (rw (long rs) h)
     ∙ List·getD-map (λ j. before j rs) (from 0 14) k 0 ∙ ap (λ (j : ℕ). before j rs) (from-at 0 14 k h ∙ omega arith)
 
 -- ---- a store past the rows leaves them
 
-pub holds-store : {rs : List (List ℕ)} {t : List ℕ} → Holds rs t → (k v : ℕ) → Holds rs (set t (54616 + k) v)
+pub holds-store : {rs : List (List ℕ)} {t : List ℕ} → Holds rs t → (k v : ℕ) → Holds rs (set t (kindIndex + k) v)
 holds-store {rs} {t} h k v =
-    let e : 54616 + k ≡ 32768 + (21848 + k) = omega arith in
+    let e : kindIndex + k ≡ rowStarts + (kindIndex - rowStarts + k) = omega arith in
     record {
-      cells-begin = take-set-le (length (flatten rs)) t (54616 + k) v (omega (arith, h .few-cells)) ∙ h .cells-begin;
+      cells-begin = take-set-le (length (flatten rs)) t (kindIndex + k) v (omega (arith, h .few-cells)) ∙ h .cells-begin;
       starts-begin =
-          ap (λ (j : ℕ). take (length rs + 1) (drop 32768 (set t j v))) e
-          ∙ ap (take (length rs + 1)) (drop-set-add 32768 t (21848 + k) v)
-          ∙ take-set-le (length rs + 1) (drop 32768 t) (21848 + k) v (omega (arith, h .few-rows)) ∙ h .starts-begin;
+          ap (λ (j : ℕ). take (length rs + 1) (drop rowStarts (set t j v))) e
+          ∙ ap (take (length rs + 1)) (drop-set-add rowStarts t (kindIndex - rowStarts + k) v)
+          ∙ take-set-le (length rs + 1) (drop rowStarts t) (kindIndex - rowStarts + k) v (omega (arith, h .few-rows)) ∙ h .starts-begin;
       few-cells = h .few-cells;
       few-rows = h .few-rows;
     }

@@ -1,4 +1,4 @@
--- The index as it is filled. Assumes nothing.
+-- The index (specs/Index.antt: `Filled`) as `fill` and `fill_insts` of src/index.rt fill it. Assumes nothing.
 use mathlib.Core.Path.{_≡_, refl, sym, ap, _∙_, subst}
 use mathlib.Core.Bool.{Bool, true, false, _&&_}
 use mathlib.Core.List.{List, [], _∷_, map}
@@ -8,11 +8,13 @@ use native.Mathlib.Numerals.{add-one}
 use native.Mathlib.Omega.{arith}
 use lib.Dec.{ltb}
 use lib.ListN.{length, getD, take, drop, set, length-set, drop-of-length-le}
-use lib.Seq.{drop-cons, take-nil, drop-nil, take-set-le, drop-set-add, getD-set-same, getD-set-other}
+use lib.Seq.{drop-cons, take-nil, drop-nil, take-set-le, drop-set-add}
 use borrow.Author.Tests.{ltb-true, lt-ltb, le-ltb, ltb-false}
-use Rattle.laws.proofs.Cases.{by-bool, by-lt, by-eq}
+use Rattle.laws.proofs.Cases.{by-bool, by-lt}
+use Rattle.laws.proofs.Lists.{span-none, span-store}
 use Rattle.rules.specs.Rows.{first}
 use Rattle.rules.specs.Sheet.{Sheet, BlockRow, totalOf, field}
+use Rattle.table.specs.Layout.{instIndex, kindIndex}
 use Rattle.table.specs.Table.{Holds, Indexed}
 use Rattle.rules.specs.Sheet.{sheetOf, sheetBy}
 use Rattle.rules.specs.Cells.{word, words, find}
@@ -26,40 +28,29 @@ use Rattle.table.proofs.Loops.{and-left, and-right}
 
 -- ---- a store past the beginnings leaves the rows
 
-pub indexed-store : {rs : List (List ℕ)} {t : List ℕ} → Indexed rs t → (j v : ℕ) → 54630 ≤ j → Indexed rs (set t j v)
+pub indexed-store : {rs : List (List ℕ)} {t : List ℕ} → Indexed rs t → (j v : ℕ) → kindIndex + 14 ≤ j → Indexed rs (set t j v)
 indexed-store {rs} {t} h j v l =
-    let e : 54616 + (j - 54616) ≡ j = omega arith in
+    let e : kindIndex + (j - kindIndex) ≡ j = omega arith in
     record {
-      held = rw e at (holds-store (h .held) (j - 54616) v);
+      held = rw e at (holds-store (h .held) (j - kindIndex) v);
       kinds-begin =
-          ap (λ (i : ℕ). take 14 (drop 54616 (set t i v))) (sym e)
-          ∙ ap (take 14) (drop-set-add 54616 t (j - 54616) v)
-          ∙ take-set-le 14 (drop 54616 t) (j - 54616) v (omega arith) ∙ h .kinds-begin;
+          ap (λ (i : ℕ). take 14 (drop kindIndex (set t i v))) (sym e)
+          ∙ ap (take 14) (drop-set-add kindIndex t (j - kindIndex) v)
+          ∙ take-set-le 14 (drop kindIndex t) (j - kindIndex) v (omega arith) ∙ h .kinds-begin;
       rising = h .rising;
     }
 
 module _ {rs : List (List ℕ)} (at : ℕ) (f : ℕ → ℕ) {t : List ℕ} where
   pub filled-none : Indexed rs t → Filled rs at f 0 t t
-  filled-none h = record { rows = h; done = λ y u. absurd (omega arith); below = λ j u. refl; above = λ j u. refl }
+  filled-none h = record { rows = h; span = span-none at f t }
 
   -- one more is stored
-  pub filled-more : {n : ℕ} {t′ : List ℕ} → Filled rs at f n t t′ → (v : ℕ) → v ≡ f n → 54630 ≤ at → at + n < length t′ → Filled rs at f (n + 1) t (set t′ (at + n) v)
+  pub filled-more : {n : ℕ} {t′ : List ℕ} → Filled rs at f n t t′ → (v : ℕ) → v ≡ f n → kindIndex + 14 ≤ at → at + n < length t′ → Filled rs at f (n + 1) t (set t′ (at + n) v)
   filled-more {n} {t′} p v e l h =
-      record {
-        rows = indexed-store (p .rows) (at + n) v (omega arith);
-        done = λ y u.
-            by-eq y n (λ q. rw q (getD-set-same t′ (at + n) v 0 h ∙ e))
-            (λ d. getD-set-other t′ (at + n) (at + y) v 0 (λ q. d (omega arith)) ∙ p .done y (omega arith));
-        below = λ j u. getD-set-other t′ (at + n) j v 0 (λ q. omega arith) ∙ p .below j u;
-        above = λ j u. getD-set-other t′ (at + n) j v 0 (λ q. omega arith) ∙ p .above j (omega arith);
-      }
+      let m : length t′ ≡ length t = p .span .long in
+      record { rows = indexed-store (p .rows) (at + n) v (omega arith); span = span-store at f t n t′ v (p .span) e (omega arith) }
 
 -- ---- how many rows come before
-
-pub before-zero : (rows : List (List ℕ)) → before 0 rows ≡ 0
-unfolding before
-before-zero [] = refl
-before-zero (r ∷ rows) = rw (le-ltb (first r) 0 (omega arith))
 
 module _ (x : ℕ) (rows : List (List ℕ)) (n : ℕ) where
   -- row n comes before
@@ -139,7 +130,7 @@ module _ (k at most : ℕ) (t₀ : List ℕ) where
         let one = before-one x (ofKind k rs) n (omega arith) w in
         record { filled = p .filled; left = omega (arith, p .left, one) }
 
-    pub going-store : (t′ : List ℕ) → test ≡ false → 54630 ≤ at → x ≤ most → length t ≡ length t₀ → t′ ≡ set t (at + x) n → Going k at most (x + 1) n t₀ t′
+    pub going-store : (t′ : List ℕ) → test ≡ false → kindIndex + 14 ≤ at → x ≤ most → length t ≡ length t₀ → t′ ≡ set t (at + x) n → Going k at most (x + 1) n t₀ t′
     going-store t′ b low l z q rs i h =
         let p = g rs i h in
         let m : rows ≡ length (ofKind k rs) = e ∙ count-is i k small in
@@ -168,28 +159,28 @@ unfolding sheetOf sheetBy word words find
 block-rows rs = refl
 
 pub record Sums (rs : List (List ℕ)) (b sum : ℕ) (t₀ t : List ℕ) : Type 0 where
-  pub filled : Filled rs 54632 (λ b. totalOf (take b (blockRows rs))) b t₀ t
+  pub filled : Filled rs instIndex (λ b. totalOf (take b (blockRows rs))) b t₀ t
   pub sum-is : sum ≡ totalOf (take b (blockRows rs))
 
 abbrev pub Summing : ℕ → ℕ → List ℕ → List ℕ → Type 0
-Summing b sum t₀ t = (rs : List (List ℕ)) → Indexed rs t₀ → totalOf (blockRows rs) ≤ instLimit → 54696 < length t₀ → Sums rs b sum t₀ t
+Summing b sum t₀ t = (rs : List (List ℕ)) → Indexed rs t₀ → totalOf (blockRows rs) ≤ instLimit → instIndex + blockLimit < length t₀ → Sums rs b sum t₀ t
 
 pub summing-start : (t₀ : List ℕ) → Summing 0 0 t₀ t₀
 unfolding totalOf
-summing-start t₀ rs i l h = record { filled = filled-none 54632 _ i; sum-is = refl }
+summing-start t₀ rs i l h = record { filled = filled-none instIndex _ i; sum-is = refl }
 
-pub summing-next : (t₀ t t′ : List ℕ) (b sum n : ℕ) (row : List ℕ) → b ≤ blockLimit → length t ≡ length t₀ → t′ ≡ set t (54632 + b) sum → row ≡ kindRow t′ 6 b → n ≡ getD row 2 0
+pub summing-next : (t₀ t t′ : List ℕ) (b sum n : ℕ) (row : List ℕ) → b ≤ blockLimit → length t ≡ length t₀ → t′ ≡ set t (instIndex + b) sum → row ≡ kindRow t′ 6 b → n ≡ getD row 2 0
     → Summing b sum t₀ t → Summing (b + 1) ((sum + n % 65536) % 65536) t₀ t′
 summing-next t₀ t t′ b sum n row l z q r v g rs i m h =
     let p = g rs i m h in
-    let f : Filled rs 54632 (λ b. totalOf (take b (blockRows rs))) (b + 1) t₀ t′ = rw q (filled-more 54632 _ (p .filled) sum (p .sum-is) (omega arith) (omega arith)) in
+    let f : Filled rs instIndex (λ b. totalOf (take b (blockRows rs))) (b + 1) t₀ t′ = rw q (filled-more instIndex _ (p .filled) sum (p .sum-is) (omega arith) (omega arith)) in
     let w : n ≡ getD (getD (ofKind 6 rs) b []) 2 0 = v ∙ ap (λ (x : List ℕ). getD x 2 0) (r ∙ kind-row-is (f .rows) 6 (omega arith) b) in
     let one = total-next blockOf (λ r. refl) (ofKind 6 rs) b in
     let most = total-part (b + 1) (blockRows rs) in
     record { filled = f; sum-is = omega (arith, p .sum-is, one, most, w) }
 
-pub summed : (t₀ t : List ℕ) (b sum : ℕ) → blockLimit < b → b ≤ 65 → Summing b sum t₀ t → (rs : List (List ℕ)) → Indexed rs t₀ → totalOf (sheetOf rs .blocks) ≤ instLimit → 54696 < length t₀
-    → Filled rs 54632 (λ b. totalOf (take b (sheetOf rs .blocks))) (blockLimit + 1) t₀ t
+pub summed : (t₀ t : List ℕ) (b sum : ℕ) → blockLimit < b → b ≤ 65 → Summing b sum t₀ t → (rs : List (List ℕ)) → Indexed rs t₀ → totalOf (sheetOf rs .blocks) ≤ instLimit → instIndex + blockLimit < length t₀
+    → Filled rs instIndex (λ b. totalOf (take b (sheetOf rs .blocks))) (blockLimit + 1) t₀ t
 summed t₀ t b sum l u g rs i m h =
     let e : b ≡ 65 = omega arith in
-    rw (block-rows rs) (subst (λ (n : ℕ). Filled rs 54632 (λ b. totalOf (take b (blockRows rs))) n t₀ t) e (g rs i (rw (block-rows rs) at m) h .filled))
+    rw (block-rows rs) (subst (λ (n : ℕ). Filled rs instIndex (λ b. totalOf (take b (blockRows rs))) n t₀ t) e (g rs i (rw (block-rows rs) at m) h .filled))

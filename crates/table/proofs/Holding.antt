@@ -1,4 +1,4 @@
--- The representation: row i of the sheet is the part of the cells from its start to the next one. Assumes nothing.
+-- For `Holds` of specs/Table.antt, the representation: row i of the sheet is the part of the cells from its start to the next one. Assumes nothing.
 use mathlib.Core.Path.{_≡_, refl, sym, _∙_, ap, subst}
 use mathlib.Core.List.{List, [], _∷_, _++_, append-assoc}
 use Prim.Native.Nat.{ℕ, zero, suc, _+_, _-_, _<_, _≤_}
@@ -7,6 +7,7 @@ use native.Mathlib.Numerals.{add-one}
 use native.Mathlib.Omega.{arith}
 use lib.ListN.{length, getD, take, drop, length-append, take-append-drop, drop-of-length-le}
 use lib.Seq.{getD-take, getD-drop, drop-at, take-append-seam, drop-cons}
+use Rattle.table.specs.Layout.{rowStarts}
 use Rattle.table.specs.Table.{flatten, offsets, Holds, rowsFrom, rowsIn}
 use Rattle.table.specs.Rows.{rowIn}
 
@@ -40,35 +41,35 @@ module _ {rs : List (List ℕ)} {t : List ℕ} (h : Holds rs t) where
   cells-split : flatten rs ++ drop (length (flatten rs)) t ≡ t
   cells-split = ap (λ (l : List ℕ). l ++ drop (length (flatten rs)) t) (sym (h .cells-begin)) ∙ take-append-drop (length (flatten rs)) t
 
-  pub start-is : (i : ℕ) → i ≤ length rs → getD t (32768 + i) 0 ≡ getD (offsets 0 rs) i 0
+  pub start-is : (i : ℕ) → i ≤ length rs → getD t (rowStarts + i) 0 ≡ getD (offsets 0 rs) i 0
   start-is i l =
-      sym (getD-take (length rs + 1) (drop 32768 t) i 0 (omega arith) ∙ getD-drop 32768 t i 0)
+      sym (getD-take (length rs + 1) (drop rowStarts t) i 0 (omega arith) ∙ getD-drop rowStarts t i 0)
       ∙ ap (λ (x : List ℕ). getD x i 0) (h .starts-begin)
 
-  pub width-is : (i : ℕ) → i < length rs → getD t (32768 + i + 1) 0 ≡ getD t (32768 + i) 0 + length (getD rs i [])
+  pub width-is : (i : ℕ) → i < length rs → getD t (rowStarts + i + 1) 0 ≡ getD t (rowStarts + i) 0 + length (getD rs i [])
   width-is i l =
-      ap (λ (j : ℕ). getD t j 0) (add-assoc 32768 i 1)
+      ap (λ (j : ℕ). getD t j 0) (add-assoc rowStarts i 1)
       ∙ start-is (i + 1) (omega arith) ∙ ap (λ (j : ℕ). getD (offsets 0 rs) j 0) (add-one i) ∙ offset-next rs 0 i l
       ∙ ap (λ (x : ℕ). x + length (getD rs i [])) (sym (start-is i (omega arith)))
 
   -- rows start one after the other, within the cells
-  pub start-later : (i d : ℕ) → i + d ≤ length rs → getD t (32768 + i) 0 ≤ getD t (32768 + (i + d)) 0
+  pub start-later : (i d : ℕ) → i + d ≤ length rs → getD t (rowStarts + i) 0 ≤ getD t (rowStarts + (i + d)) 0
   start-later i zero l = rw (add-zero i) (omega arith)
   start-later i (suc d) l =
-      let e : 32768 + (i + suc d) ≡ 32768 + (i + d) + 1 = omega arith in
+      let e : rowStarts + (i + suc d) ≡ rowStarts + (i + d) + 1 = omega arith in
       rw e (omega (arith, start-later i d (omega arith), width-is (i + d) (omega arith)))
 
-  pub start-within : (i : ℕ) → i ≤ length rs → getD t (32768 + i) 0 ≤ 32768
+  pub start-within : (i : ℕ) → i ≤ length rs → getD t (rowStarts + i) 0 ≤ rowStarts
   start-within i l =
       let e : i + (length rs - i) ≡ length rs = omega arith in
-      let a : getD t (32768 + i) 0 ≤ getD t (32768 + length rs) 0 = rw e at (start-later i (length rs - i) (omega arith)) in
+      let a : getD t (rowStarts + i) 0 ≤ getD t (rowStarts + length rs) 0 = rw e at (start-later i (length rs - i) (omega arith)) in
       omega (arith, a, start-is (length rs) (omega arith), last-offset 0 rs, h .few-cells)
 
   -- THE REPRESENTATION
   pub row-is : (i : ℕ) → i < length rs → rowIn t i ≡ getD rs i []
   row-is i l =
-      let w : getD t (32768 + i + 1) 0 - getD t (32768 + i) 0 ≡ length (getD rs i []) = omega (arith, width-is i l) in
-      ap (λ (n : ℕ). take n (drop (getD t (32768 + i) 0) t)) w
+      let w : getD t (rowStarts + i + 1) 0 - getD t (rowStarts + i) 0 ≡ length (getD rs i []) = omega (arith, width-is i l) in
+      ap (λ (n : ℕ). take n (drop (getD t (rowStarts + i) 0) t)) w
       ∙ ap (λ (a : ℕ). take (length (getD rs i [])) (drop a t)) (start-is i (omega arith))
       ∙ ap (λ (l : List ℕ). take (length (getD rs i [])) (drop (getD (offsets 0 rs) i 0) l)) (sym cells-split)
       ∙ row-at rs [] (drop (length (flatten rs)) t) 0 i refl l

@@ -1,4 +1,5 @@
--- The rows of one kind, by KIND: row n of kind k in the table is the n-th of the sheet's rows of that kind, and there are as many. Assumes nothing.
+-- For `kindRow` and `countIn` of specs/Rows.antt, the rows of one kind: row n of kind k in the table is the n-th of the sheet's rows of that kind, and there are as many.
+-- Assumes nothing.
 use mathlib.Core.Path.{_≡_, sym, _∙_, ap}
 use mathlib.Core.Bool.{Bool, true, false}
 use mathlib.Core.List.{List, [], _∷_}
@@ -11,7 +12,9 @@ use lib.Dec.{eqb, ltb}
 use borrow.Author.Tests.{lt-ltb, le-ltb, eq-eqb, ne-eqb}
 use Rattle.laws.specs.Lists.{keep}
 use Rattle.laws.proofs.Cases.{by-lt}
+use Rattle.rules.specs.Words.{slotsWord}
 use Rattle.rules.specs.Rows.{kind}
+use Rattle.table.specs.Layout.{kindIndex}
 use Rattle.table.specs.Rows.{countIn, kindRow}
 use Rattle.table.specs.Table.{Rising, Indexed}
 use Rattle.table.proofs.Holding.{row-is}
@@ -61,22 +64,22 @@ module _ (rs : List (List ℕ)) (up : Rising rs) where
         },
       ))
 
-  parts : (k : ℕ) → Parts rs (100001 + k) (before k rs)
+  parts : (k : ℕ) → Parts rs (slotsWord + k) (before k rs)
   unfolding before
   parts k =
-      let x = parted (100001 + k) (length rs) 0 (omega arith) (λ j u. absurd (omega arith)) in
+      let x = parted (slotsWord + k) (length rs) 0 (omega arith) (λ j u. absurd (omega arith)) in
       let p = x .1 in
-      let e : before k rs ≡ x .0 = counted (λ r. ltb (kind r) (100001 + k)) rs (x .0) (p .within) (λ j u. lt-ltb _ _ (p .low j u)) (λ j a b. le-ltb _ _ (p .high j a b)) in
+      let e : before k rs ≡ x .0 = counted (λ r. ltb (kind r) (slotsWord + k)) rs (x .0) (p .within) (λ j u. lt-ltb _ _ (p .low j u)) (λ j a b. le-ltb _ _ (p .high j a b)) in
       rw e p
 
-  of-kind : (k : ℕ) → keep (λ r. eqb (kind r) (100001 + k)) rs ≡ take (before (k + 1) rs - before k rs) (drop (before k rs) rs)
+  of-kind : (k : ℕ) → keep (λ r. eqb (kind r) (slotsWord + k)) rs ≡ take (before (k + 1) rs - before k rs) (drop (before k rs) rs)
   of-kind k =
       let a = parts k in
       let b = parts (k + 1) in
-      segment (λ r. eqb (kind r) (100001 + k)) rs (before k rs) (before (k + 1) rs) (rises k) (b .within)
-      (λ j u. ne-eqb (kind (getD rs j [])) (100001 + k) (λ e. omega (arith, a .low j u)))
-      (λ j u v. eq-eqb (kind (getD rs j [])) (100001 + k) (omega (arith, a .high j u (omega (arith, b .within)), b .low j v)))
-      (λ j u v. ne-eqb (kind (getD rs j [])) (100001 + k) (λ e. omega (arith, b .high j u v)))
+      segment (λ r. eqb (kind r) (slotsWord + k)) rs (before k rs) (before (k + 1) rs) (rises k) (b .within)
+      (λ j u. ne-eqb (kind (getD rs j [])) (slotsWord + k) (λ e. omega (arith, a .low j u)))
+      (λ j u v. eq-eqb (kind (getD rs j [])) (slotsWord + k) (omega (arith, a .high j u (omega (arith, b .within)), b .low j v)))
+      (λ j u v. ne-eqb (kind (getD rs j [])) (slotsWord + k) (λ e. omega (arith, b .high j u v)))
     where
       rises : (k : ℕ) → before k rs ≤ before (k + 1) rs
       rises k =
@@ -85,25 +88,25 @@ module _ (rs : List (List ℕ)) (up : Rising rs) where
           (λ h. h)
 
 module _ {rs : List (List ℕ)} {t : List ℕ} (x : Indexed rs t) where
-  pub begin-is : (k : ℕ) → k < 14 → getD t (54616 + k) 0 ≡ before k rs
+  pub begin-is : (k : ℕ) → k < 14 → getD t (kindIndex + k) 0 ≡ before k rs
   begin-is k h =
-      sym (getD-take 14 (drop 54616 t) k 0 h ∙ getD-drop 54616 t k 0) ∙ ap (λ (l : List ℕ). getD l k 0) (x .kinds-begin) ∙ begin-at rs k h
+      sym (getD-take 14 (drop kindIndex t) k 0 h ∙ getD-drop kindIndex t k 0) ∙ ap (λ (l : List ℕ). getD l k 0) (x .kinds-begin) ∙ begin-at rs k h
 
-  pub begin-within : (k : ℕ) → k < 14 → getD t (54616 + k) 0 ≤ length rs
+  pub begin-within : (k : ℕ) → k < 14 → getD t (kindIndex + k) 0 ≤ length rs
   begin-within k h = rw (begin-is k h) (parts rs (x .rising) k .within)
 
-  end-is : (k : ℕ) → k < 13 → getD t (54616 + k + 1) 0 ≡ before (k + 1) rs
-  end-is k h = ap (λ (j : ℕ). getD t j 0) (add-assoc 54616 k 1) ∙ begin-is (k + 1) (omega arith)
+  end-is : (k : ℕ) → k < 13 → getD t (kindIndex + k + 1) 0 ≡ before (k + 1) rs
+  end-is k h = ap (λ (j : ℕ). getD t j 0) (add-assoc kindIndex k 1) ∙ begin-is (k + 1) (omega arith)
 
   -- how many rows there are of kind k
-  pub count-is : (k : ℕ) → k < 13 → countIn t k ≡ length (keep (λ r. eqb (kind r) (100001 + k)) rs)
+  pub count-is : (k : ℕ) → k < 13 → countIn t k ≡ length (keep (λ r. eqb (kind r) (slotsWord + k)) rs)
   count-is k h =
       let b = parts rs (x .rising) (k + 1) in
       rw (begin-is k (omega arith), end-is k h, of-kind rs (x .rising) k)
       (sym (length-take-le _ (drop (before k rs) rs) (rw length-drop (omega (arith, b .within)))))
 
   -- and the n-th of them
-  pub kind-row-is : (k : ℕ) → k < 13 → (n : ℕ) → kindRow t k n ≡ getD (keep (λ r. eqb (kind r) (100001 + k)) rs) n []
+  pub kind-row-is : (k : ℕ) → k < 13 → (n : ℕ) → kindRow t k n ≡ getD (keep (λ r. eqb (kind r) (slotsWord + k)) rs) n []
   unfolding kindRow
   kind-row-is k h n =
       let b = parts rs (x .rising) (k + 1) in
@@ -112,4 +115,4 @@ module _ {rs : List (List ℕ)} {t : List ℕ} (x : Indexed rs t) where
       let l′ : n < before (k + 1) rs - before k rs = rw (begin-is k (omega arith), end-is k h) at l in
       rw (lt-ltb n (countIn t k) l, begin-is k (omega arith), row-is (x .held) (before k rs + n) (omega (arith, b .within)), of-kind rs (x .rising) k)
       (sym (getD-take _ (drop (before k rs) rs) n [] l′ ∙ getD-drop (before k rs) rs n [])))
-      (λ l. rw (le-ltb n (countIn t k) l) (sym (List·getD-eq-default (keep (λ r. eqb (kind r) (100001 + k)) rs) [] {n = n} (omega (arith, count-is k h)))))
+      (λ l. rw (le-ltb n (countIn t k) l) (sym (List·getD-eq-default (keep (λ r. eqb (kind r) (slotsWord + k)) rs) [] {n = n} (omega (arith, count-is k h)))))

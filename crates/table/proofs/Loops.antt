@@ -1,7 +1,8 @@
--- Tests joined by `&&`, and loops over the numbers from 0 on that return at the first at which a test says so. Assumes nothing.
+-- Laws of `all`, `any` and `keep`: one by one, and for loops that return at the first number or member at which a test says so. Passes on what laws says of `&&`.
+-- Assumes nothing.
 use mathlib.Core.Path.{_≡_, refl, sym, ap, ap₂, _∙_}
-use mathlib.Core.Bool.{Bool, true, false, not, _&&_, _||_}
-use mathlib.Core.List.{List, [], _∷_, map}
+use mathlib.Core.Bool.{Bool, true, false, not}
+use mathlib.Core.List.{List, [], _∷_, map, map-map}
 use Prim.Native.Nat.{ℕ, zero, suc, _+_, _-_, _≤_, _<_}
 use native.Mathlib.Nat.{sub-eq-zero-of-le}
 use native.Mathlib.Numerals.{add-one}
@@ -10,24 +11,7 @@ use lib.ListN.{length, getD, drop, drop-of-length-le}
 use lib.Seq.{drop-cons}
 use Rattle.laws.specs.Lists.{all, any, keep, from}
 use Rattle.laws.proofs.Cases.{by-bool}
-
--- ---- `&&`
-
-pub and-left : (a b : Bool) → (a && b) ≡ true → a ≡ true
-and-left true b e = refl
-and-left false b e = e
-
-pub and-right : (a b : Bool) → (a && b) ≡ true → b ≡ true
-and-right true b e = e
-and-right false true e = refl
-and-right false false e = e
-
-pub and-both : (a b : Bool) → a ≡ true → b ≡ true → (a && b) ≡ true
-and-both a b p q = rw (p, q)
-
--- a test that is false and true
-pub never : {C : Type 0} → false ≡ true → C
-never e = let z : _≡_ {A = ℕ} 0 1 = cc in absurd (omega arith)
+pub use Rattle.laws.proofs.Cases.{and-left, and-right, and-both, never}
 
 -- ---- one by one
 
@@ -55,11 +39,6 @@ module _ {A : Type 0} (f g : A → Bool) where
   unfolding all
   all-same [] h = refl
   all-same (x ∷ l) h = rw (h x, all-same l h)
-
-  pub any-same : (l : List A) → ((x : A) → f x ≡ g x) → any f l ≡ any g l
-  unfolding any
-  any-same [] h = refl
-  any-same (x ∷ l) h = rw (h x, any-same l h)
 
   pub keep-same : (l : List A) → ((x : A) → f x ≡ g x) → keep f l ≡ keep g l
   unfolding keep
@@ -141,24 +120,24 @@ module _ {A : Type 0} (f : A → Bool) (d : A) (l : List A) (i : ℕ) where
   unfolding any
   any-end-in h = rw (drop-of-length-le l h)
 
--- a list by the numbers of its members
-module _ {A : Type 0} (f : A → Bool) (d : A) where
-  from-shift : (g : ℕ → Bool) (a n : ℕ) → all g (from (suc a) n) ≡ all (λ j. g (suc j)) (from a n)
-  unfolding all from
-  from-shift g a zero = refl
-  from-shift g a (suc n) = rw (from-shift g (suc a) n)
+-- ---- a list by the numbers of its members
 
-  pub all-numbers : (l : List A) → all f l ≡ all (λ j. f (getD l j d)) (from 0 (length l))
-  unfolding all from
-  all-numbers [] = refl
-  all-numbers (x ∷ l) = rw (all-numbers l) (ap (λ (b : Bool). f x && b) (sym (from-shift (λ j. f (getD (x ∷ l) j d)) 0 (length l))))
+from-suc : (a n : ℕ) → from (suc a) n ≡ map suc (from a n)
+unfolding from
+from-suc a zero = refl
+from-suc a (suc n) = ap (λ (l : List ℕ). suc a ∷ l) (from-suc (suc a) n)
 
-  any-shift : (g : ℕ → Bool) (a n : ℕ) → any g (from (suc a) n) ≡ any (λ j. g (suc j)) (from a n)
-  unfolding any from
-  any-shift g a zero = refl
-  any-shift g a (suc n) = rw (any-shift g (suc a) n)
+module _ {A : Type 0} (d : A) where
+  by-numbers : (l : List A) → l ≡ map (λ j. getD l j d) (from 0 (length l))
+  unfolding from
+  by-numbers [] = refl
+  by-numbers (x ∷ l) =
+      ap (λ (m : List A). x ∷ m)
+      (by-numbers l ∙ sym (ap (map (λ j. getD (x ∷ l) j d)) (from-suc 0 (length l)) ∙ map-map (λ j. getD (x ∷ l) j d) suc (from 0 (length l))))
 
-  pub any-numbers : (l : List A) → any f l ≡ any (λ j. f (getD l j d)) (from 0 (length l))
-  unfolding any from
-  any-numbers [] = refl
-  any-numbers (x ∷ l) = rw (any-numbers l) (ap (λ (b : Bool). f x || b) (sym (any-shift (λ j. f (getD (x ∷ l) j d)) 0 (length l))))
+module _ {A : Type 0} (f : A → Bool) (d : A) (l : List A) where
+  pub all-numbers : all f l ≡ all (λ j. f (getD l j d)) (from 0 (length l))
+  all-numbers = ap (all f) (by-numbers d l) ∙ all-map (λ j. getD l j d) f (from 0 (length l))
+
+  pub any-numbers : any f l ≡ any (λ j. f (getD l j d)) (from 0 (length l))
+  any-numbers = ap (any f) (by-numbers d l) ∙ any-map (λ j. getD l j d) f (from 0 (length l))

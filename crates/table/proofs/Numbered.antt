@@ -1,4 +1,5 @@
--- The numbers of an instruction's edit and operand rows: those of the range that the index gives. Assumes nothing.
+-- For the passes that walk an instruction's edit and operand rows by number (`editsAt` of rules/specs/Forward.antt): the numbers are those of the range that the index gives.
+-- Assumes nothing.
 use mathlib.Core.Path.{_≡_, refl, sym, ap, _∙_}
 use mathlib.Core.Bool.{Bool, true}
 use mathlib.Core.List.{List, [], _∷_, map, zip, zipWith}
@@ -15,12 +16,14 @@ use Rattle.rules.specs.Rows.{first}
 use Rattle.rules.specs.Sheet.{Sheet, OpRow, EditRow}
 use Rattle.rules.specs.Accept.{inOrder}
 use Rattle.rules.specs.Forward.{editsAt}
+use Rattle.table.specs.Layout.{editIndex, opIndex}
 use Rattle.table.specs.Sheet.{rowsAt, sheetIn}
 use Rattle.table.specs.Index.{before, rangeIn, Part, NeverFalls, Ready}
 use Rattle.table.specs.declared.index.Range.{Range}
 use Rattle.table.proofs.Sheets.{editRowOf, opRowOf, edits-are, ops-are}
 use Rattle.table.proofs.Orders.{ready-ops}
 use Rattle.table.proofs.Lookups.{edits-below, ops-below, edits-fall-in}
+use Rattle.table.proofs.Ranges.{before-low, before-all}
 
 -- the numbers, from k on, of those of a list at x
 abbrev pub numbersAt : {A : Type 0} → (A → ℕ) → ℕ → ℕ → List A → List ℕ
@@ -30,16 +33,6 @@ none-at : (x k : ℕ) (rows : List (List ℕ)) → ((j : ℕ) → j < length row
 unfolding keep from zip zipWith
 none-at x k [] h = refl
 none-at x k (r ∷ rows) h = rw (ne-eqb (first r) x (λ e. omega (arith, h 0 (omega arith)))) (none-at x (suc k) rows (λ j u. h (suc j) (omega arith)))
-
-before-low : (x : ℕ) (rows : List (List ℕ)) → ((j : ℕ) → j < length rows → x ≤ first (getD rows j [])) → before x rows ≡ 0
-unfolding before
-before-low x [] h = refl
-before-low x (r ∷ rows) h = rw (le-ltb (first r) x (h 0 (omega arith)))
-
-before-all : (x : ℕ) (rows : List (List ℕ)) → ((j : ℕ) → j < length rows → first (getD rows j []) < x) → before x rows ≡ length rows
-unfolding before
-before-all x [] h = refl
-before-all x (r ∷ rows) h = rw (lt-ltb (first r) x (h 0 (omega arith))) (omega (arith, before-all x rows (λ j u. h (suc j) (omega arith))))
 
 numbers-at : (x k : ℕ) (rows : List (List ℕ)) → NeverFalls rows → numbersAt first x k rows ≡ from (k + before x rows) (before (x + 1) rows - before x rows)
 unfolding keep before from zip zipWith
@@ -87,13 +80,13 @@ module _ (t : List ℕ) (at k most : ℕ) (part : Part t at k most) (up : NeverF
       rw (le-ltb x most h, z))
 
 -- THE NUMBERS OF AN INSTRUCTION'S EDITS AND OPERANDS
-pub edits-at : {t : List ℕ} → Ready t → inOrder (sheetIn t .edits) ≡ true → (i : ℕ) → editsAt (sheetIn t) i ≡ from (rangeIn t 56008 instLimit i .from) (rangeIn t 56008 instLimit i .to - rangeIn t 56008 instLimit i .from)
+pub edits-at : {t : List ℕ} → Ready t → inOrder (sheetIn t .edits) ≡ true → (i : ℕ) → editsAt (sheetIn t) i ≡ from (rangeIn t editIndex instLimit i .from) (rangeIn t editIndex instLimit i .to - rangeIn t editIndex instLimit i .from)
 unfolding editsAt
 edits-at {t} g o i =
     ap (numbersAt (λ (e : EditRow). e .at) i 0) (edits-are t .is) ∙ numbers-of editRowOf (λ (e : EditRow). e .at) i 0 (rowsAt t 12) (λ r. refl)
-    ∙ numbers-in t 56008 12 instLimit (g .built .edits) (edits-fall-in g o) (edits-below g) i
+    ∙ numbers-in t editIndex 12 instLimit (g .built .edits) (edits-fall-in g o) (edits-below g) i
 
-pub ops-at : {t : List ℕ} → Ready t → (i : ℕ) → numbersAt (λ (o : OpRow). o .at) i 0 (sheetIn t .ops) ≡ from (rangeIn t 54952 instLimit i .from) (rangeIn t 54952 instLimit i .to - rangeIn t 54952 instLimit i .from)
+pub ops-at : {t : List ℕ} → Ready t → (i : ℕ) → numbersAt (λ (o : OpRow). o .at) i 0 (sheetIn t .ops) ≡ from (rangeIn t opIndex instLimit i .from) (rangeIn t opIndex instLimit i .to - rangeIn t opIndex instLimit i .from)
 ops-at {t} g i =
     ap (numbersAt (λ (o : OpRow). o .at) i 0) (ops-are t .is) ∙ numbers-of opRowOf (λ (o : OpRow). o .at) i 0 (rowsAt t 10) (λ r. refl)
-    ∙ numbers-in t 54952 10 instLimit (g .built .ops) (ready-ops g) (ops-below g) i
+    ∙ numbers-in t opIndex 10 instLimit (g .built .ops) (ready-ops g) (ops-below g) i

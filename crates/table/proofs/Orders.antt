@@ -1,8 +1,8 @@
--- The order of the rows of a sheet, and a table that is ready. Assumes nothing.
+-- For `NeverFalls` and `Rises` of specs/Index.antt: the order of the rows of a sheet, and of those of a table that is ready. Assumes nothing.
 use mathlib.Core.Path.{_≡_, refl, sym, ap, _∙_}
 use mathlib.Core.Bool.{Bool, true, false, cond, _&&_, _||_, and-false}
 use mathlib.Core.List.{List, [], _∷_, map}
-use mathlib.Core.Option.{Option, none, some, Option·elim}
+use mathlib.Core.Option.{some, Option·elim}
 use Prim.Native.Nat.{ℕ, zero, suc, _+_, _-_, _≤_, _<_}
 use native.Mathlib.Nat.{le-trans, lt-trans}
 use native.Mathlib.Omega.{arith}
@@ -10,7 +10,8 @@ use lib.Dec.{eqb, ltb, leb}
 use lib.ListN.{length, getD, length-map, List·getD-map}
 use borrow.Author.Tests.{lt-ltb, le-ltb, eq-eqb, ne-eqb, ltb-true, leb-true, eqb-true}
 use Rattle.laws.specs.Lists.{all, keep}
-use Rattle.laws.proofs.Cases.{by-bool, by-lt, by-eq}
+use Rattle.laws.proofs.Cases.{by-bool, by-lt, by-eq, by-option}
+use Rattle.rules.specs.Words.{clobWord, opWord, paramWord, predWord, succWord}
 use Rattle.rules.specs.Cells.{word}
 use Rattle.rules.specs.Rows.{Kind, Order, rises, never-falls, number, place, list₁, end, _▸_, opShape, kinds, kindFrom, kind, first, goesOn, begins, pairOk, pairsOk, rowOk, sheetOk, reading}
 use Rattle.rules.specs.Sheet.{EditRow}
@@ -22,12 +23,8 @@ use Rattle.table.proofs.Sheets.{rows-are, editRowOf}
 
 -- ---- one row after another
 
-by-option : {A C : Type 0} (o : Option A) → (o ≡ none → C) → ((a : A) → o ≡ some a → C) → C
-by-option none f g = f refl
-by-option (some a) f g = g a refl
-
 -- kinds never fall
-pair-kind : (p r : List ℕ) → pairOk p r ≡ true → kind p ≤ kind r
+pub pair-kind : (p r : List ℕ) → pairOk p r ≡ true → kind p ≤ kind r
 unfolding pairOk Option·elim
 pair-kind p r e =
     by-lt (kind r) (kind p)
@@ -125,23 +122,23 @@ module _ (rs : List (List ℕ)) (e : sheetOk rs ≡ true) where
 
   pub succs-rise : Rises (ofKind 7 rs)
   unfolding reading
-  succs-rise = rising 100008 (record { name = "succ"; order = rises; shape = number ▸ list₁ }) refl refl
+  succs-rise = rising succWord (record { name = "succ"; order = rises; shape = number ▸ list₁ }) refl refl
 
   pub preds-rise : Rises (ofKind 8 rs)
   unfolding reading
-  preds-rise = rising 100009 (record { name = "pred"; order = rises; shape = number ▸ list₁ }) refl refl
+  preds-rise = rising predWord (record { name = "pred"; order = rises; shape = number ▸ list₁ }) refl refl
 
   pub params-fall : NeverFalls (ofKind 9 rs)
   unfolding reading
-  params-fall = never-falling 100010 (record { name = "param"; order = never-falls; shape = number ▸ number ▸ place ▸ end }) refl refl
+  params-fall = never-falling paramWord (record { name = "param"; order = never-falls; shape = number ▸ number ▸ place ▸ end }) refl refl
 
   pub ops-fall : NeverFalls (ofKind 10 rs)
   unfolding reading
-  ops-fall = never-falling 100011 (record { name = "op"; order = never-falls; shape = opShape }) refl refl
+  ops-fall = never-falling opWord (record { name = "op"; order = never-falls; shape = opShape }) refl refl
 
   pub clobs-rise : Rises (ofKind 11 rs)
   unfolding reading
-  clobs-rise = rising 100012 (record { name = "clob"; order = rises; shape = number ▸ list₁ }) refl refl
+  clobs-rise = rising clobWord (record { name = "clob"; order = rises; shape = number ▸ list₁ }) refl refl
 
 -- the rows of a table that is ready
 module _ {t : List ℕ} (g : Ready t) where

@@ -1,4 +1,4 @@
--- Parts of a list that reach past its end. Assumes nothing.
+-- For src/rows.rt: parts of a list that reach past its end. Assumes nothing.
 use mathlib.Core.Path.{_≡_, refl, sym, _∙_}
 use mathlib.Core.List.{List, []}
 use Prim.Native.Nat.{ℕ, _+_, _-_, _≤_, _<_}
@@ -8,6 +8,7 @@ use lib.ListN.{length, take, drop, length-drop, drop-of-length-le}
 use lib.Seq.{take-all, take-nil}
 use lib.ListN.{getD}
 use borrow.Author.Tests.{lt-ltb, le-ltb}
+use Rattle.table.specs.Layout.{kindIndex}
 use Rattle.table.specs.Rows.{rowIn, firstIn, countIn, kindRow}
 
 module _ {A : Type 0} (l : List A) (a : ℕ) where
@@ -30,7 +31,7 @@ pub row-part : (l : List ℕ) {f t f′ t′ : ℕ} → f ≡ f′ → t ≡ t�
 row-part l p q = rw (p, q)
 
 -- row n of kind k, where f and u are where the kind's rows begin and end
-module _ (t : List ℕ) (k n : ℕ) {f u : ℕ} (p : f ≡ firstIn t k) (q : u ≡ getD t (54616 + k + 1) 0) where
+module _ (t : List ℕ) (k n : ℕ) {f u : ℕ} (p : f ≡ firstIn t k) (q : u ≡ getD t (kindIndex + k + 1) 0) where
   pub kind-hit : n < u - f → rowIn t (f + n) ≡ kindRow t k n
   unfolding kindRow
   kind-hit h = let h′ : n < countIn t k = rw (p, q) at h in rw (p, lt-ltb n (countIn t k) h′)

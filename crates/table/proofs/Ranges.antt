@@ -1,4 +1,4 @@
--- What is read off the index, and the rows that it tells of. Assumes nothing.
+-- For `rangeIn` and `before` of specs/Index.antt and the reads of src/index.rt: what is read off the index, and the rows that it tells of. Assumes nothing.
 use mathlib.Core.Path.{_≡_, refl, sym, ap, _∙_}
 use mathlib.Core.Bool.{Bool, true, false, cond, _&&_}
 use mathlib.Core.List.{List, [], _∷_, map, flatMap, append-nil}
@@ -10,6 +10,7 @@ use lib.ListN.{length, getD, take, drop}
 use borrow.Author.Tests.{lt-ltb, le-ltb, eq-eqb, ne-eqb}
 use Rattle.laws.specs.Lists.{keep, from}
 use Rattle.laws.proofs.Cases.{by-lt, by-eq}
+use Rattle.laws.proofs.Lists.{keep-none}
 use Rattle.rules.specs.Rows.{first}
 use Rattle.rules.specs.Sheet.{Sheet, BlockRow, instsFrom, totalOf}
 use Rattle.table.specs.Rows.{countIn, kindRow}
@@ -43,15 +44,15 @@ module _ (t : List ℕ) (k rows n x : ℕ) where
 
 -- ---- rows by their first fields
 
-keep-none : {A : Type 0} (f : A → Bool) (d : A) (l : List A) → ((j : ℕ) → j < length l → f (getD l j d) ≡ false) → keep f l ≡ []
-unfolding keep
-keep-none f d [] h = refl
-keep-none f d (x ∷ l) h = rw (h 0 (omega arith)) (keep-none f d l (λ j u. h (suc j) (omega arith)))
-
-before-low : (x : ℕ) (rows : List (List ℕ)) → ((j : ℕ) → j < length rows → x ≤ first (getD rows j [])) → before x rows ≡ 0
+pub before-low : (x : ℕ) (rows : List (List ℕ)) → ((j : ℕ) → j < length rows → x ≤ first (getD rows j [])) → before x rows ≡ 0
 unfolding before
 before-low x [] h = refl
 before-low x (r ∷ rows) h = rw (le-ltb (first r) x (h 0 (omega arith)))
+
+pub before-all : (x : ℕ) (rows : List (List ℕ)) → ((j : ℕ) → j < length rows → first (getD rows j []) < x) → before x rows ≡ length rows
+unfolding before
+before-all x [] h = refl
+before-all x (r ∷ rows) h = rw (lt-ltb (first r) x (h 0 (omega arith))) (omega (arith, before-all x rows (λ j u. h (suc j) (omega arith))))
 
 pub before-within : (x : ℕ) (rows : List (List ℕ)) → before x rows ≤ length rows
 unfolding before

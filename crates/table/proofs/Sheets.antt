@@ -1,8 +1,8 @@
--- The sheet that a table holds: it is the sheet of the rows that the table holds; and its fields, by the table's rows of each kind. Assumes nothing.
+-- For `sheetIn` of specs/Sheet.antt: it is the sheet of the rows that the table holds; and its fields, by the table's rows of each kind. Assumes nothing.
 use mathlib.Core.Path.{_≡_, refl, sym, _∙_, ap}
 use mathlib.Core.List.{List, [], map}
 use mathlib.Core.Option.{Option}
-use Prim.Native.Nat.{ℕ, zero, suc, _+_, _-_, _<_, _≤_}
+use Prim.Native.Nat.{ℕ, _+_, _-_, _<_, _≤_}
 use native.Mathlib.Omega.{arith}
 use lib.ListN.{length, getD, drop, length-map, List·getD-map, List·getD-eq-default}
 use lib.Seq.{ext-getD}
@@ -10,20 +10,16 @@ use lib.Dec.{eqb}
 use borrow.Author.Tests.{le-ltb}
 use Rattle.laws.specs.Lists.{keep, from}
 use Rattle.laws.proofs.Cases.{by-lt}
-use Rattle.laws.proofs.Lists.{getD-any}
+use Rattle.laws.proofs.Lists.{getD-any, from-long}
+use Rattle.rules.specs.Words.{slotsWord}
 use Rattle.rules.specs.Cells.{word, words, find}
 use Rattle.rules.specs.Rows.{kind}
-use Rattle.rules.specs.Sheet.{RegRow, ClassRow, GroupRow, BlockRow, ParamRow, OpRow, EditRow, field, flagOf, maybe, placeOf, constraintOf, kindOf, editOf, listRow, sheetBy, sheetOf}
+use Rattle.rules.specs.Sheet.{RegRow, ClassRow, GroupRow, BlockRow, ParamRow, OpRow, EditRow, field, flagOf, maybe, placeOf, constraintOf, kindOf, editOf, listRow, sheetBy, sheetOf, blockCount}
 use Rattle.table.specs.Rows.{countIn, kindRow}
 use Rattle.table.specs.Table.{Indexed}
 use Rattle.table.specs.Sheet.{rowsAt, sheetIn}
 use Rattle.table.proofs.Beginnings.{from-at}
 use Rattle.table.proofs.Kindred.{count-is, kind-row-is}
-
-pub from-long : (a n : ℕ) → length (from a n) ≡ n
-unfolding from
-from-long a zero = refl
-from-long a (suc n) = ap suc (from-long (suc a) n)
 
 -- a list by its members
 module _ {A : Type 0} (f : ℕ → A) (n : ℕ) where
@@ -70,9 +66,9 @@ module _ (t : List ℕ) (k : ℕ) where
 -- ---- the sheet of the rows
 
 module _ {rs : List (List ℕ)} {t : List ℕ} (x : Indexed rs t) where
-  pub rows-are : (k : ℕ) → k < 13 → rowsAt t k ≡ keep (λ r. eqb (kind r) (100001 + k)) rs
+  pub rows-are : (k : ℕ) → k < 13 → rowsAt t k ≡ keep (λ r. eqb (kind r) (slotsWord + k)) rs
   rows-are k h =
-      ext-getD [] (rowsAt t k) (keep (λ r. eqb (kind r) (100001 + k)) rs) (rows-long t k ∙ count-is x k h) (λ n l. rows-at t k n ∙ kind-row-is x k h n)
+      ext-getD [] (rowsAt t k) (keep (λ r. eqb (kind r) (slotsWord + k)) rs) (rows-long t k ∙ count-is x k h) (λ n l. rows-at t k n ∙ kind-row-is x k h n)
 
   -- THE SHEET
   pub sheet-in-is : sheetIn t ≡ sheetOf rs
@@ -193,3 +189,6 @@ module _ {A : Type 0} {t : List ℕ} {k : ℕ} {f : List ℕ → A} {l : List A}
 
   pub part-of : {B : Type 0} (g : A → B) (n : ℕ) (d : A) → g (f []) ≡ g d → g (getD l n d) ≡ g (f (kindRow t k n))
   part-of g n d z = ap (λ (y : List A). g (getD y n d)) (x .is) ∙ read-part t k f g n d z
+
+pub blocks-counted : (t : List ℕ) {n : ℕ} → n ≡ countIn t 6 → n ≡ blockCount (sheetIn t)
+blocks-counted t e = e ∙ sym (long-of (blocks-are t))

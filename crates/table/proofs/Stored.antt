@@ -1,4 +1,4 @@
--- Edits and places in cells: an edit that is stored is read back, and the others stay. Assumes nothing.
+-- For src/edits.rt and specs/Edits.antt, edits and places in cells: an edit that is stored is read back, and the others stay. Assumes nothing.
 --     edit-move, edit-remat, edit-espill, edit-ereload, edit-none     an edit by the word of its kind
 --     small-reg, small-slot, stored, ..       the cells of a place and of an edit, where its numbers are below 100000
 --     read-back       the edit of the cells of an edit is the edit
@@ -24,10 +24,12 @@ use Rattle.entity.specs.declared.forms.Place.{Place}
 use Rattle.entity.specs.declared.forms.Place.the-variants.{Reg, Slot}
 use Rattle.entity.specs.declared.forms.Edit.{Edit}
 use Rattle.entity.specs.declared.forms.Edit.the-variants.{Move, Remat, Espill, Ereload, Misplaced, Nothing}
-use Rattle.rules.specs.Cells.{word, find, words}
+use Rattle.rules.specs.Words.{dashWord, ereloadWord, espillWord, moveWord, noneWord, rematWord}
+use Rattle.rules.specs.Cells.{word, find, words, numberLimit, regMark, slotMark}
 use Rattle.rules.specs.Sheet.{EditRow, placeOf, espillOf, ereloadOf, editOf}
 use Rattle.rules.specs.Accept.{placed}
 use Rattle.rules.specs.Answer.{placeCell, editCells}
+use Rattle.table.specs.Layout.{editWidth}
 use Rattle.table.specs.Edits.{editIn, editsIn, withEdit, placeIn, placesIn, editAtRow, SmallPlace, SmallEdit}
 use Rattle.table.specs.Sheet.{sheetIn}
 use Rattle.table.specs.Written.{fourIn, SmallValue, EditCells}
@@ -35,65 +37,65 @@ use Rattle.table.proofs.Sheets.{members-long, members-at, edits-are, pa
 
 -- ---- an edit by the word of its kind
 
-pub edit-move : (k t p v : ℕ) {a b : Place} → k ≡ 100021 → a ≡ placeOf t → b ≡ placeOf p → Move a b (record { 0 = v }) ≡ editOf k t p v
+pub edit-move : (k t p v : ℕ) {a b : Place} → k ≡ moveWord → a ≡ placeOf t → b ≡ placeOf p → Move a b (record { 0 = v }) ≡ editOf k t p v
 unfolding editOf word find words
 edit-move k t p v e x y = rw (e, x, y)
 
-pub edit-remat : (k t p v : ℕ) {a : Place} → k ≡ 100022 → a ≡ placeOf t → Remat a (record { 0 = v }) ≡ editOf k t p v
+pub edit-remat : (k t p v : ℕ) {a : Place} → k ≡ rematWord → a ≡ placeOf t → Remat a (record { 0 = v }) ≡ editOf k t p v
 unfolding editOf word find words
 edit-remat k t p v e x = rw (e, x)
 
-pub edit-espill : (k t p v : ℕ) {e : Edit} {a b : Place} → k ≡ 100023 → a ≡ placeOf t → b ≡ placeOf p → e ≡ espillOf a b → e ≡ editOf k t p v
+pub edit-espill : (k t p v : ℕ) {e : Edit} {a b : Place} → k ≡ espillWord → a ≡ placeOf t → b ≡ placeOf p → e ≡ espillOf a b → e ≡ editOf k t p v
 unfolding editOf word find words
 edit-espill k t p v q x y h = rw (q, ← x, ← y) h
 
-pub edit-ereload : (k t p v : ℕ) {e : Edit} {a b : Place} → k ≡ 100024 → a ≡ placeOf t → b ≡ placeOf p → e ≡ ereloadOf a b → e ≡ editOf k t p v
+pub edit-ereload : (k t p v : ℕ) {e : Edit} {a b : Place} → k ≡ ereloadWord → a ≡ placeOf t → b ≡ placeOf p → e ≡ ereloadOf a b → e ≡ editOf k t p v
 unfolding editOf word find words
 edit-ereload k t p v q x y h = rw (q, ← x, ← y) h
 
-pub edit-none : (k t p v : ℕ) → (k ≡ 100021 → ⊥) → (k ≡ 100022 → ⊥) → (k ≡ 100023 → ⊥) → (k ≡ 100024 → ⊥) → Nothing ≡ editOf k t p v
+pub edit-none : (k t p v : ℕ) → (k ≡ moveWord → ⊥) → (k ≡ rematWord → ⊥) → (k ≡ espillWord → ⊥) → (k ≡ ereloadWord → ⊥) → Nothing ≡ editOf k t p v
 unfolding editOf word find words
-edit-none k t p v a b c d = rw (ne-eqb k 100021 a, ne-eqb k 100022 b, ne-eqb k 100023 c, ne-eqb k 100024 d)
+edit-none k t p v a b c d = rw (ne-eqb k moveWord a, ne-eqb k rematWord b, ne-eqb k espillWord c, ne-eqb k ereloadWord d)
 
 -- ---- cells of a place, of an edit
 
-pub small-reg : {p : Place} {r : PhysReg} {c : ℕ} → p ≡ Reg r → (r .0 < 100000 → c ≡ 200000 + r .0) → SmallPlace p → c ≡ placeCell p
+pub small-reg : {p : Place} {r : PhysReg} {c : ℕ} → p ≡ Reg r → (r .0 < numberLimit → c ≡ regMark + r .0) → SmallPlace p → c ≡ placeCell p
 unfolding placeCell
 small-reg {c = c} q h = subst (λ (x : Place). SmallPlace x → c ≡ placeCell x) (sym q) h
 
-pub small-slot : {p : Place} {s : SpillSlot} {c : ℕ} → p ≡ Slot s → (s .0 < 100000 → c ≡ 300000 + s .0) → SmallPlace p → c ≡ placeCell p
+pub small-slot : {p : Place} {s : SpillSlot} {c : ℕ} → p ≡ Slot s → (s .0 < numberLimit → c ≡ slotMark + s .0) → SmallPlace p → c ≡ placeCell p
 unfolding placeCell
 small-slot {c = c} q h = subst (λ (x : Place). SmallPlace x → c ≡ placeCell x) (sym q) h
 
 module _ (cells : List ℕ) (n : ℕ) where
   abbrev stores : ℕ → ℕ → ℕ → ℕ → List ℕ
-  stores k t p v = set (set (set (set cells (n * 4) k) (n * 4 + 1) t) (n * 4 + 2) p) (n * 4 + 3) v
+  stores k t p v = set (set (set (set cells (n * editWidth) k) (n * editWidth + 1) t) (n * editWidth + 2) p) (n * editWidth + 3) v
 
   pub stored-move : {l : List ℕ} {e : Edit} {to p : Place} {v : Value} {a b : ℕ} → e ≡ Move to p v → (SmallPlace to → a ≡ placeCell to) → (SmallPlace p → b ≡ placeCell p)
-      → l ≡ stores 100021 a b (v .0) → SmallEdit e → l ≡ withEdit cells n e
+      → l ≡ stores moveWord a b (v .0) → SmallEdit e → l ≡ withEdit cells n e
   unfolding withEdit editCells word find words
   stored-move {l} q x y h = subst (λ (e : Edit). SmallEdit e → l ≡ withEdit cells n e) (sym q) (λ s. h ∙ rw (x (s .0), y (s .1)))
 
   pub stored-remat : {l : List ℕ} {e : Edit} {to : Place} {v : Value} {a : ℕ} → e ≡ Remat to v → (SmallPlace to → a ≡ placeCell to)
-      → l ≡ stores 100022 a 100000 (v .0) → SmallEdit e → l ≡ withEdit cells n e
+      → l ≡ stores rematWord a dashWord (v .0) → SmallEdit e → l ≡ withEdit cells n e
   unfolding withEdit editCells word find words
   stored-remat {l} q x h = subst (λ (e : Edit). SmallEdit e → l ≡ withEdit cells n e) (sym q) (λ s. h ∙ rw (x s))
 
-  pub stored-espill : {l : List ℕ} {e : Edit} {d : SpillSlot} {r : PhysReg} {a b : ℕ} → e ≡ Espill d r → (d .0 < 100000 → a ≡ 300000 + d .0) → (r .0 < 100000 → b ≡ 200000 + r .0)
-      → l ≡ stores 100023 a b 100000 → SmallEdit e → l ≡ withEdit cells n e
+  pub stored-espill : {l : List ℕ} {e : Edit} {d : SpillSlot} {r : PhysReg} {a b : ℕ} → e ≡ Espill d r → (d .0 < numberLimit → a ≡ slotMark + d .0) → (r .0 < numberLimit → b ≡ regMark + r .0)
+      → l ≡ stores espillWord a b dashWord → SmallEdit e → l ≡ withEdit cells n e
   unfolding withEdit editCells placeCell word find words
   stored-espill {l} q x y h = subst (λ (e : Edit). SmallEdit e → l ≡ withEdit cells n e) (sym q) (λ s. h ∙ rw (x (s .0), y (s .1)))
 
-  pub stored-ereload : {l : List ℕ} {e : Edit} {d : SpillSlot} {r : PhysReg} {a b : ℕ} → e ≡ Ereload r d → (r .0 < 100000 → a ≡ 200000 + r .0) → (d .0 < 100000 → b ≡ 300000 + d .0)
-      → l ≡ stores 100024 a b 100000 → SmallEdit e → l ≡ withEdit cells n e
+  pub stored-ereload : {l : List ℕ} {e : Edit} {d : SpillSlot} {r : PhysReg} {a b : ℕ} → e ≡ Ereload r d → (r .0 < numberLimit → a ≡ regMark + r .0) → (d .0 < numberLimit → b ≡ slotMark + d .0)
+      → l ≡ stores ereloadWord a b dashWord → SmallEdit e → l ≡ withEdit cells n e
   unfolding withEdit editCells placeCell word find words
   stored-ereload {l} q x y h = subst (λ (e : Edit). SmallEdit e → l ≡ withEdit cells n e) (sym q) (λ s. h ∙ rw (x (s .0), y (s .1)))
 
-  pub stored-misplaced : {l : List ℕ} {e : Edit} {to p : Place} → e ≡ Misplaced to p → l ≡ stores 100025 100000 100000 100000 → SmallEdit e → l ≡ withEdit cells n e
+  pub stored-misplaced : {l : List ℕ} {e : Edit} {to p : Place} → e ≡ Misplaced to p → l ≡ stores noneWord dashWord dashWord dashWord → SmallEdit e → l ≡ withEdit cells n e
   unfolding withEdit editCells word find words
   stored-misplaced {l} q h = subst (λ (e : Edit). SmallEdit e → l ≡ withEdit cells n e) (sym q) (λ s. h)
 
-  pub stored-none : {l : List ℕ} {e : Edit} → e ≡ Nothing → l ≡ stores 100025 100000 100000 100000 → SmallEdit e → l ≡ withEdit cells n e
+  pub stored-none : {l : List ℕ} {e : Edit} → e ≡ Nothing → l ≡ stores noneWord dashWord dashWord dashWord → SmallEdit e → l ≡ withEdit cells n e
   unfolding withEdit editCells word find words
   stored-none {l} q h = subst (λ (e : Edit). SmallEdit e → l ≡ withEdit cells n e) (sym q) (λ s. h)
 
@@ -102,13 +104,13 @@ module _ (cells : List ℕ) (n : ℕ) where
 place-back : (p : Place) → SmallPlace p → placeOf (placeCell p) ≡ p
 unfolding placeOf placeCell
 place-back (Reg r) h =
-    let e : 200000 + r .0 - 200000 ≡ r .0 = omega arith in
-    let l : 200000 + r .0 < 300000 = omega arith in
-    rw (lt-ltb (200000 + r .0) 300000 l, e)
+    let e : regMark + r .0 - regMark ≡ r .0 = omega arith in
+    let l : regMark + r .0 < slotMark = omega arith in
+    rw (lt-ltb (regMark + r .0) slotMark l, e)
 place-back (Slot s) h =
-    let e : 300000 + s .0 - 300000 ≡ s .0 = omega arith in
-    let l : 300000 ≤ 300000 + s .0 = omega arith in
-    rw (le-ltb (300000 + s .0) 300000 l, e)
+    let e : slotMark + s .0 - slotMark ≡ s .0 = omega arith in
+    let l : slotMark ≤ slotMark + s .0 = omega arith in
+    rw (le-ltb (slotMark + s .0) slotMark l, e)
 
 -- the edit of the cells of e
 abbrev pub back : Edit → Edit
@@ -188,11 +190,11 @@ module _ (cells : List ℕ) where
     with-length = simp length-set
 
     -- the edit that is stored
-    pub with-same : j * 4 + 3 < length cells → back e ≡ e → editIn (withEdit cells j e) j ≡ e
+    pub with-same : j * editWidth + 3 < length cells → back e ≡ e → editIn (withEdit cells j e) j ≡ e
     unfolding withEdit editIn
     with-same h b =
         let cs : List ℕ = editCells e in
-        let f = four cells (j * 4) (getD cs 0 0) (getD cs 1 0) (getD cs 2 0) (getD cs 3 0) h in
+        let f = four cells (j * editWidth) (getD cs 0 0) (getD cs 1 0) (getD cs 2 0) (getD cs 3 0) h in
         rw (f .0, f .1, f .2, f .3) b
 
     -- and any other
@@ -200,15 +202,15 @@ module _ (cells : List ℕ) where
     unfolding withEdit editIn
     with-other i n =
         let cs : List ℕ = editCells e in
-        let o = none-of cells (j * 4) (getD cs 0 0) (getD cs 1 0) (getD cs 2 0) (getD cs 3 0) in
+        let o = none-of cells (j * editWidth) (getD cs 0 0) (getD cs 1 0) (getD cs 2 0) (getD cs 3 0) in
         rw (
-          o (i * 4) (λ k l q. n (omega arith)),
-          o (i * 4 + 1) (λ k l q. n (omega arith)),
-          o (i * 4 + 2) (λ k l q. n (omega arith)),
-          o (i * 4 + 3) (λ k l q. n (omega arith)),
+          o (i * editWidth) (λ k l q. n (omega arith)),
+          o (i * editWidth + 1) (λ k l q. n (omega arith)),
+          o (i * editWidth + 2) (λ k l q. n (omega arith)),
+          o (i * editWidth + 3) (λ k l q. n (omega arith)),
         )
 
-    pub edits-with : (n : ℕ) → j * 4 + 3 < length cells → back e ≡ e → editsIn (withEdit cells j e) n ≡ set (editsIn cells n) j e
+    pub edits-with : (n : ℕ) → j * editWidth + 3 < length cells → back e ≡ e → editsIn (withEdit cells j e) n ≡ set (editsIn cells n) j e
     edits-with n h b =
         let w : List ℕ = withEdit cells j e in
         let m : length (editsIn cells n) ≡ n = edits-length n in
@@ -233,26 +235,26 @@ four-of (Misplaced to p) = refl
 four-of Nothing = refl
 
 module _ (cells : List ℕ) (j : ℕ) (e : Edit) where
-  four-with : j * 4 + 3 < length cells → fourIn (withEdit cells j e) j ≡ editCells e
+  four-with : j * editWidth + 3 < length cells → fourIn (withEdit cells j e) j ≡ editCells e
   unfolding fourIn withEdit
   four-with h =
       let cs : List ℕ = editCells e in
-      let f = four cells (j * 4) (getD cs 0 0) (getD cs 1 0) (getD cs 2 0) (getD cs 3 0) h in
+      let f = four cells (j * editWidth) (getD cs 0 0) (getD cs 1 0) (getD cs 2 0) (getD cs 3 0) h in
       rw (f .0, f .1, f .2, f .3) (four-of e)
 
   four-other : (i : ℕ) → (i ≡ j → ⊥) → fourIn (withEdit cells j e) i ≡ fourIn cells i
   unfolding fourIn withEdit
   four-other i n =
       let cs : List ℕ = editCells e in
-      let o = none-of cells (j * 4) (getD cs 0 0) (getD cs 1 0) (getD cs 2 0) (getD cs 3 0) in
+      let o = none-of cells (j * editWidth) (getD cs 0 0) (getD cs 1 0) (getD cs 2 0) (getD cs 3 0) in
       rw (
-        o (i * 4) (λ k l q. n (omega arith)),
-        o (i * 4 + 1) (λ k l q. n (omega arith)),
-        o (i * 4 + 2) (λ k l q. n (omega arith)),
-        o (i * 4 + 3) (λ k l q. n (omega arith)),
+        o (i * editWidth) (λ k l q. n (omega arith)),
+        o (i * editWidth + 1) (λ k l q. n (omega arith)),
+        o (i * editWidth + 2) (λ k l q. n (omega arith)),
+        o (i * editWidth + 3) (λ k l q. n (omega arith)),
       )
 
-  pub cells-same : j * 4 + 3 < length cells → placed e ≡ true → SmallEdit e → SmallValue e → EditCells (withEdit cells j e) j
+  pub cells-same : j * editWidth + 3 < length cells → placed e ≡ true → SmallEdit e → SmallValue e → EditCells (withEdit cells j e) j
   cells-same h p s v =
       let b : editIn (withEdit cells j e) j ≡ e = with-same cells j e h (read-back e p s) in
       record { kept = rw b (four-with h); small = rw b s; value = rw b v }
@@ -263,7 +265,7 @@ module _ (cells : List ℕ) (j : ℕ) (e : Edit) where
       record { kept = rw b (four-other i n ∙ c .kept); small = rw b (c .small); value = rw b (c .value) }
 
   -- and so of all, where e has small numbers
-  pub cells-with : (i : ℕ) → i * 4 + 3 < length cells → placed e ≡ true → SmallEdit e → SmallValue e → EditCells cells i → EditCells (withEdit cells j e) i
+  pub cells-with : (i : ℕ) → i * editWidth + 3 < length cells → placed e ≡ true → SmallEdit e → SmallValue e → EditCells cells i → EditCells (withEdit cells j e) i
   cells-with i h p s v c = by-eq i j (λ q. rw q (cells-same (rw q at h) p s v)) (λ q. cells-other i q c)
 
 -- ---- the edits that the sheet says

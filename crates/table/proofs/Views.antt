@@ -1,10 +1,11 @@
--- What the rows of a table say, by kind: the sheet's names for what an accessor reads off row n of its kind. Assumes nothing.
+-- For src/view.rt: the sheet's names (specs/View.antt) for what an accessor reads off row n of its kind. Assumes nothing.
 use mathlib.Core.Path.{_≡_, refl, sym, ap}
 use mathlib.Core.List.{List}
 use mathlib.Core.Option.{none}
 use Prim.Native.Nat.{ℕ, _<_, _≤_}
 use lib.ListN.{getD, drop}
 use borrow.Author.Tests.{ne-eqb}
+use Rattle.rules.specs.Words.{dashWord}
 use Rattle.rules.specs.Cells.{word, words, find}
 use Rattle.rules.specs.Sheet.{field, flagOf, maybe, placeOf, constraintOf, kindOf, unitsOf, isMemory, classRow, homeOf, valuesOf, blockRow}
 use Rattle.table.specs.Rows.{countIn, kindRow}
@@ -79,18 +80,18 @@ module _ (t : List ℕ) (n : ℕ) where
     operand-is = rw (pk, pq, pp, pa, pw, pv, px, pc, e) (sym (part-of (ops-are t) operandOf n _ refl))
 
 -- a cell that may be a dash
-pub slot-dash : (c : ℕ) → c ≡ 100000 → FoundSlot.Nothing ≡ slotFound (maybe c)
+pub slot-dash : (c : ℕ) → c ≡ dashWord → FoundSlot.Nothing ≡ slotFound (maybe c)
 unfolding slotFound maybe word words find
 slot-dash c e = rw e
 
-pub slot-some : (c : ℕ) → (c ≡ 100000 → ⊥) → FoundSlot.At (record { 0 = c }) ≡ slotFound (maybe c)
+pub slot-some : (c : ℕ) → (c ≡ dashWord → ⊥) → FoundSlot.At (record { 0 = c }) ≡ slotFound (maybe c)
 unfolding slotFound maybe word words find
-slot-some c e = rw (ne-eqb c 100000 e)
+slot-some c e = rw (ne-eqb c dashWord e)
 
-pub block-dash : (c : ℕ) → c ≡ 100000 → FoundBlock.Nothing ≡ blockFound (maybe c)
+pub block-dash : (c : ℕ) → c ≡ dashWord → FoundBlock.Nothing ≡ blockFound (maybe c)
 unfolding blockFound maybe word words find
 block-dash c e = rw e
 
-pub block-some : (c : ℕ) → (c ≡ 100000 → ⊥) → FoundBlock.At (record { 0 = c }) ≡ blockFound (maybe c)
+pub block-some : (c : ℕ) → (c ≡ dashWord → ⊥) → FoundBlock.At (record { 0 = c }) ≡ blockFound (maybe c)
 unfolding blockFound maybe word words find
-block-some c e = rw (ne-eqb c 100000 e)
+block-some c e = rw (ne-eqb c dashWord e)

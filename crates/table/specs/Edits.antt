@@ -7,13 +7,15 @@ use Rattle.entity.specs.declared.forms.Place.{Place}
 use Rattle.entity.specs.declared.forms.Place.the-variants.{Reg, Slot}
 use Rattle.entity.specs.declared.forms.Edit.{Edit}
 use Rattle.entity.specs.declared.forms.Edit.the-variants.{Move, Remat, Espill, Ereload, Misplaced, Nothing}
+use Rattle.rules.specs.Cells.{numberLimit}
 use Rattle.rules.specs.Sheet.{placeOf, editOf}
 use Rattle.rules.specs.Answer.{editCells}
+use Rattle.table.specs.Layout.{editWidth}
 use Rattle.table.specs.Rows.{kindRow}
 
 -- edit j; and the first n
 unfoldable pub editIn : List ℕ → ℕ → Edit
-editIn cells j = editOf (getD cells (j * 4) 0) (getD cells (j * 4 + 1) 0) (getD cells (j * 4 + 2) 0) (getD cells (j * 4 + 3) 0)
+editIn cells j = editOf (getD cells (j * editWidth) 0) (getD cells (j * editWidth + 1) 0) (getD cells (j * editWidth + 2) 0) (getD cells (j * editWidth + 3) 0)
 
 unfoldable pub editsIn : List ℕ → ℕ → List Edit
 editsIn cells n = map (editIn cells) (from 0 n)
@@ -22,7 +24,7 @@ editsIn cells n = map (editIn cells) (from 0 n)
 unfoldable pub withEdit : List ℕ → ℕ → Edit → List ℕ
 withEdit cells j e =
     let cs = editCells e in
-    set (set (set (set cells (j * 4) (getD cs 0 0)) (j * 4 + 1) (getD cs 1 0)) (j * 4 + 2) (getD cs 2 0)) (j * 4 + 3) (getD cs 3 0)
+    set (set (set (set cells (j * editWidth) (getD cs 0 0)) (j * editWidth + 1) (getD cs 1 0)) (j * editWidth + 2) (getD cs 2 0)) (j * editWidth + 3) (getD cs 3 0)
 
 -- place j; and the first n
 unfoldable pub placeIn : List ℕ → ℕ → Place
@@ -37,8 +39,8 @@ editAtRow t n = let r = kindRow t 12 n in editOf (getD r 2 0) (getD r 3 0) (getD
 
 -- "at most five digits": the numbers in a place and in an edit are below 100000
 abbrev pub SmallPlace : Place → Type 0
-SmallPlace (Reg r) = r .0 < 100000
-SmallPlace (Slot s) = s .0 < 100000
+SmallPlace (Reg r) = r .0 < numberLimit
+SmallPlace (Slot s) = s .0 < numberLimit
 
 abbrev pub SmallEdit : Edit → Type 0
 SmallEdit (Move to p v) = SmallPlace to × SmallPlace p

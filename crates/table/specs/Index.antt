@@ -6,10 +6,13 @@ use Prim.Native.Nat.{ℕ, _+_, _<_, _≤_}
 use lib.Dec.{eqb, ltb}
 use lib.ListN.{length, getD, take}
 use Rattle.laws.specs.Lists.{keep}
+use Rattle.laws.specs.Spans.{Span}
 use Rattle.entity.specs.Limits.{blockLimit, instLimit}
+use Rattle.rules.specs.Words.{slotsWord}
 use Rattle.rules.specs.Rows.{kind, first, sheetOk}
 use Rattle.rules.specs.Sheet.{Sheet, totalOf}
 use Rattle.rules.specs.Accept.{withinLimits, namesHold}
+use Rattle.table.specs.Layout.{clobIndex, editIndex, instIndex, opIndex, paramIndex, predIndex, succIndex}
 use Rattle.table.specs.Table.{Indexed}
 use Rattle.table.specs.Sheet.{rowsAt, sheetIn}
 use Rattle.table.specs.declared.index.Range.{Range}
@@ -24,13 +27,13 @@ abbrev pub Part : List ℕ → ℕ → ℕ → ℕ → Type 0
 Part t at k most = (x : ℕ) → x ≤ most → getD t (at + x) 0 ≡ before x (rowsAt t k)
 
 pub record Built (t : List ℕ) : Type 0 where
-  pub insts : (b : ℕ) → b ≤ blockLimit → getD t (54632 + b) 0 ≡ totalOf (take b (sheetIn t .blocks))
-  pub succs : Part t 54712 7 blockLimit
-  pub preds : Part t 54792 8 blockLimit
-  pub params : Part t 54872 9 blockLimit
-  pub ops : Part t 54952 10 instLimit
-  pub clobs : Part t 55480 11 instLimit
-  pub edits : Part t 56008 12 instLimit
+  pub insts : (b : ℕ) → b ≤ blockLimit → getD t (instIndex + b) 0 ≡ totalOf (take b (sheetIn t .blocks))
+  pub succs : Part t succIndex 7 blockLimit
+  pub preds : Part t predIndex 8 blockLimit
+  pub params : Part t paramIndex 9 blockLimit
+  pub ops : Part t opIndex 10 instLimit
+  pub clobs : Part t clobIndex 11 instLimit
+  pub edits : Part t editIndex 12 instLimit
 
 -- what is read off the part of the index at `at`, for blocks or instructions below `most`
 unfoldable pub rangeIn : List ℕ → ℕ → ℕ → ℕ → Range
@@ -57,11 +60,9 @@ pub record Ready (t : List ℕ) : Type 0 where
 
 -- the rows of kind k
 abbrev pub ofKind : ℕ → List (List ℕ) → List (List ℕ)
-ofKind k rs = keep (λ r. eqb (kind r) (100001 + k)) rs
+ofKind k rs = keep (λ r. eqb (kind r) (slotsWord + k)) rs
 
 -- t′ is t with f 0, f 1, .. stored from `at` on, n of them, and still holds the rows
 pub record Filled (rs : List (List ℕ)) (at : ℕ) (f : ℕ → ℕ) (n : ℕ) (t t′ : List ℕ) : Type 0 where
   pub rows : Indexed rs t′
-  pub done : (y : ℕ) → y < n → getD t′ (at + y) 0 ≡ f y
-  pub below : (j : ℕ) → j < at → getD t′ j 0 ≡ getD t j 0
-  pub above : (j : ℕ) → at + n ≤ j → getD t′ j 0 ≡ getD t j 0
+  pub span : Span at f t n t′

@@ -1,4 +1,4 @@
--- The table: the cells from 0 on, one after the other; from 32768 on where each row starts, and where the last one ends; from 54616 on
+-- The table: the cells from 0 on, one after the other; from `rowStarts` on where each row starts, and where the last one ends; from `kindIndex` on
 -- where each kind's rows begin. And the rows that a table holds.
 use Prim.Native.Nat.{ℕ, zero, suc, _+_, _<_, _≤_}
 use mathlib.Core.Path.{_≡_}
@@ -6,7 +6,9 @@ use mathlib.Core.List.{List, [], _∷_, _++_, map}
 use lib.Dec.{ltb}
 use lib.ListN.{length, getD, take, drop}
 use Rattle.laws.specs.Lists.{keep, from}
+use Rattle.rules.specs.Words.{slotsWord}
 use Rattle.rules.specs.Rows.{kind}
+use Rattle.table.specs.Layout.{kindIndex, rowLimit, rowStarts}
 use Rattle.table.specs.Rows.{rowIn}
 
 unfoldable pub flatten : List (List ℕ) → List ℕ
@@ -20,14 +22,14 @@ offsets a (r ∷ rs) = a ∷ offsets (a + length r) rs
 
 -- how many rows there are of the kinds before each kind, and of all kinds: kind k's rows are those from the k-th of these on, and up to the next
 unfoldable pub kindsBegin : List (List ℕ) → List ℕ
-kindsBegin rs = map (λ k. length (keep (λ r. ltb (kind r) (100001 + k)) rs)) (from 0 14)
+kindsBegin rs = map (λ k. length (keep (λ r. ltb (kind r) (slotsWord + k)) rs)) (from 0 14)
 
 -- the cells and the starts of these rows stand in the table
 pub record Holds (rs : List (List ℕ)) (t : List ℕ) : Type 0 where
   pub cells-begin : take (length (flatten rs)) t ≡ flatten rs
-  pub starts-begin : take (length rs + 1) (drop 32768 t) ≡ offsets 0 rs
-  pub few-cells : length (flatten rs) ≤ 32768
-  pub few-rows : length rs ≤ 21845
+  pub starts-begin : take (length rs + 1) (drop rowStarts t) ≡ offsets 0 rs
+  pub few-cells : length (flatten rs) ≤ rowStarts
+  pub few-rows : length rs ≤ rowLimit
 
 -- the rows' kinds never fall
 unfoldable pub Rising : List (List ℕ) → Type 0
@@ -36,7 +38,7 @@ Rising rs = (i : ℕ) → i + 1 < length rs → kind (getD rs i []) ≤ kind (ge
 -- and their kinds' beginnings too
 pub record Indexed (rs : List (List ℕ)) (t : List ℕ) : Type 0 where
   pub held : Holds rs t
-  pub kinds-begin : take 14 (drop 54616 t) ≡ kindsBegin rs
+  pub kinds-begin : take 14 (drop kindIndex t) ≡ kindsBegin rs
   pub rising : Rising rs
 
 -- rows i, i + 1, .. of a table, m of them; and its first n rows

@@ -2,20 +2,24 @@
 use mathlib.Core.Path.{_≡_}
 use mathlib.Core.List.{List, [], _∷_}
 use Prim.Native.Nat.{ℕ, _+_, _*_, _<_, _≤_}
-use lib.ListN.{getD}
+use lib.ListN.{length, getD}
 use Rattle.entity.specs.declared.forms.Edit.{Edit}
 use Rattle.entity.specs.declared.forms.Edit.the-variants.{Move, Remat, Espill, Ereload, Misplaced, Nothing}
+use Rattle.entity.specs.declared.forms.Place.{Place}
+use Rattle.rules.specs.Cells.{classMark, numberLimit, regMark}
 use Rattle.rules.specs.Answer.{editCells}
-use Rattle.table.specs.Edits.{editIn, SmallEdit}
+use Rattle.table.specs.Layout.{editWidth}
+use Rattle.table.specs.Sheet.{sheetIn}
+use Rattle.table.specs.Edits.{editIn, editsIn, placesIn, SmallEdit}
 
 -- the four cells of edit n
 unfoldable pub fourIn : List ℕ → ℕ → List ℕ
-fourIn cells n = getD cells (n * 4) 0 ∷ getD cells (n * 4 + 1) 0 ∷ getD cells (n * 4 + 2) 0 ∷ getD cells (n * 4 + 3) 0 ∷ []
+fourIn cells n = getD cells (n * editWidth) 0 ∷ getD cells (n * editWidth + 1) 0 ∷ getD cells (n * editWidth + 2) 0 ∷ getD cells (n * editWidth + 3) 0 ∷ []
 
 -- "at most five digits": the value too
 abbrev pub SmallValue : Edit → Type 0
-SmallValue (Move to p v) = v .0 < 100000
-SmallValue (Remat to v) = v .0 < 100000
+SmallValue (Move to p v) = v .0 < numberLimit
+SmallValue (Remat to v) = v .0 < numberLimit
 SmallValue (Espill s r) = Unit {0}
 SmallValue (Ereload r s) = Unit {0}
 SmallValue (Misplaced to p) = Unit {0}
@@ -29,4 +33,11 @@ pub record EditCells (edits : List ℕ) (n : ℕ) : Type 0 where
 
 -- r0 to r99999 or s0 to s99999
 abbrev pub PlaceCell : ℕ → Type 0
-PlaceCell c = (200000 ≤ c) × (c < 400000)
+PlaceCell c = (regMark ≤ c) × (c < classMark)
+
+-- these edits and these operand places stand in the cells, one a row of the table's sheet
+pub record InCells (t edits places : List ℕ) (es : List Edit) (ps : List Place) : Type 0 where
+  pub edit-cells : (j : ℕ) → j < length (sheetIn t .edits) → EditCells edits j
+  pub is-edits : es ≡ editsIn edits (length (sheetIn t .edits))
+  pub place-cells : (j : ℕ) → j < length (sheetIn t .ops) → PlaceCell (getD places j 0)
+  pub is-places : ps ≡ placesIn places (length (sheetIn t .ops))

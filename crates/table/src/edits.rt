@@ -2,16 +2,20 @@
 ghost use mathlib.Core.Path.{_≡_};
 ghost use lib.ListN.{getD, set};
 ghost use Prim.Native.Nat.{_+_, _*_, _<_};
+ghost use Rattle.rules.specs.Cells.{markEnd, numberLimit};
 ghost use Rattle.rules.specs.Answer.{placeCell};
 ghost use Rattle.rules.specs.Sheet.{espillOf, ereloadOf, editOf};
+ghost use Rattle.table.specs.Layout.{editWidth};
 ghost use Rattle.table.specs.Rows.{kindRow};
 ghost use Rattle.table.specs.Edits.{editIn, withEdit, editAtRow, SmallPlace, SmallEdit};
 use crate::rows::Kind;
 use crate::rows::row_of;
-use crate::view::DASH;
 use crate::view::place_of;
 use bits::tables::read_u32;
 use bits::tables::store_u32;
+use entity::cells::Mark;
+use entity::cells::Number;
+use entity::cells::Word;
 use entity::forms::Edit;
 use entity::forms::Place;
 use entity::numbers::EditRow;
@@ -19,16 +23,8 @@ use entity::numbers::PhysReg;
 use entity::numbers::SpillSlot;
 use entity::numbers::Value;
 
-// The words of the edit kinds.
-const MOVE: u32 = 100021;
-
-const REMAT: u32 = 100022;
-
-const ESPILL: u32 = 100023;
-
-const ERELOAD: u32 = 100024;
-
-const NONE: u32 = 100025;
+// The cells of an edit.
+pub const WIDTH: usize = 4;
 
 fn espill_of(to: Place, from: Place) -> Edit
     ensures { λ e. ⌜ e ≡ espillOf to from ⌝ }
@@ -54,21 +50,21 @@ fn ereload_of(to: Place, from: Place) -> Edit
     }
 }
 
-pub fn edit_of(k: u32, to: u32, from: u32, value: u32) -> Edit
+fn edit_of(k: u32, to: u32, from: u32, value: u32) -> Edit
     ensures { λ e. ⌜ e ≡ editOf k to from value ⌝ }
 {
     match k {
-        MOVE => Edit::Move {
+        Word::MOVE => Edit::Move {
             to: place_of(to),
             from: place_of(from),
             value: Value(value),
         },
-        REMAT => Edit::Remat {
+        Word::REMAT => Edit::Remat {
             to: place_of(to),
             value: Value(value),
         },
-        ESPILL => espill_of(place_of(to), place_of(from)),
-        ERELOAD => ereload_of(place_of(to), place_of(from)),
+        Word::ESPILL => espill_of(place_of(to), place_of(from)),
+        Word::ERELOAD => ereload_of(place_of(to), place_of(from)),
         _ => Edit::Nothing,
     }
 }
@@ -77,23 +73,23 @@ pub fn place_cell(p: Place) -> u32
     ensures { λ c. ⌜ (SmallPlace p → c ≡ placeCell p) ⌝ }
 {
     match p {
-        Place::Reg(r) => cell(200000, r.0),
-        Place::Slot(s) => cell(300000, s.0),
+        Place::Reg(r) => cell(Mark::REG, r.0),
+        Place::Slot(s) => cell(Mark::SLOT, s.0),
     }
 }
 
 // A number with its mark; numbers have five digits at most.
 fn cell(mark: u32, n: u32) -> u32
-    requires { ⌜ mark < 1000000 ⌝ }
-    ensures { λ c. ⌜ (n < 100000 → c ≡ mark + n) ⌝ }
+    requires { ⌜ mark < markEnd ⌝ }
+    ensures { λ c. ⌜ (n < numberLimit → c ≡ mark + n) ⌝ }
 {
-    mark + n % 100000
+    mark + n % Number::LIMIT
 }
 
 pub fn read_edit(edits: &[u32], n: EditRow) -> Edit
     ensures { λ e. ⌜ e ≡ editIn (now (edits .entry)) (n .0) ⌝ }
 {
-    let at = n.0 as usize * 4;
+    let at = n.0 as usize * WIDTH;
     edit_of(
         read_u32(edits, at),
         read_u32(edits, at + 1),
@@ -103,9 +99,9 @@ pub fn read_edit(edits: &[u32], n: EditRow) -> Edit
 }
 
 fn store_cells(edits: &mut [u32], n: EditRow, kind: u32, to: u32, from: u32, value: u32)
-    ensures { λ _. ⌜ now (edits .exit) ≡ set (set (set (set (now (edits .entry)) (n .0 * 4) kind) (n .0 * 4 + 1) to) (n .0 * 4 + 2) from) (n .0 * 4 + 3) value ⌝ }
+    ensures { λ _. ⌜ now (edits .exit) ≡ set (set (set (set (now (edits .entry)) (n .0 * editWidth) kind) (n .0 * editWidth + 1) to) (n .0 * editWidth + 2) from) (n .0 * editWidth + 3) value ⌝ }
 {
-    let at = n.0 as usize * 4;
+    let at = n.0 as usize * WIDTH;
     store_u32(edits, at, kind);
     store_u32(edits, at + 1, to);
     store_u32(edits, at + 2, from);
@@ -117,31 +113,52 @@ pub fn store_edit(edits: &mut [u32], n: EditRow, e: Edit)
 {
     match e {
         Edit::Move { to, from, value } => {
-            store_cells(edits, n, MOVE, place_cell(to), place_cell(from), value.0)
+            store_cells(
+                edits,
+                n,
+                Word::MOVE,
+                place_cell(to),
+                place_cell(from),
+                value.0,
+            )
         }
-        Edit::Remat { to, value } => store_cells(edits, n, REMAT, place_cell(to), DASH, value.0),
+        Edit::Remat { to, value } => store_cells(
+            edits,
+            n,
+            Word::REMAT,
+            place_cell(to),
+            Word::DASH,
+            value.0,
+        ),
         Edit::Espill { to, from } => {
             store_cells(
                 edits,
                 n,
-                ESPILL,
-                cell(300000, to.0),
-                cell(200000, from.0),
-                DASH,
+                Word::ESPILL,
+                cell(Mark::SLOT, to.0),
+                cell(Mark::REG, from.0),
+                Word::DASH,
             )
         }
         Edit::Ereload { to, from } => {
             store_cells(
                 edits,
                 n,
-                ERELOAD,
-                cell(200000, to.0),
-                cell(300000, from.0),
-                DASH,
+                Word::ERELOAD,
+                cell(Mark::REG, to.0),
+                cell(Mark::SLOT, from.0),
+                Word::DASH,
             )
         }
-        Edit::Misplaced { to: _, from: _ } => store_cells(edits, n, NONE, DASH, DASH, DASH),
-        Edit::Nothing => store_cells(edits, n, NONE, DASH, DASH, DASH),
+        Edit::Misplaced { to: _, from: _ } => store_cells(
+            edits,
+            n,
+            Word::NONE,
+            Word::DASH,
+            Word::DASH,
+            Word::DASH,
+        ),
+        Edit::Nothing => store_cells(edits, n, Word::NONE, Word::DASH, Word::DASH, Word::DASH),
     }
 }
 

@@ -10,10 +10,14 @@ ghost use Rattle.entity.specs.Limits.{blockLimit, instLimit};
 ghost use Rattle.rules.specs.Rows.{first};
 ghost use Rattle.rules.specs.Sheet.{totalOf, sheetOf};
 ghost use Rattle.rules.specs.Accept.{withinLimits};
+ghost use Rattle.table.specs.Layout.{clobIndex, editIndex, editWidth, instIndex, kindIndex, opIndex, paramIndex, predIndex, rowStarts, succIndex, tableLength};
 ghost use Rattle.table.specs.Rows.{kindRow};
 ghost use Rattle.table.specs.Table.{Indexed};
 ghost use Rattle.table.specs.Index.{before, ofKind, Filled, Built, rangeIn};
 use crate::INDEX;
+use crate::LENGTH;
+use crate::STARTS;
+use crate::edits::WIDTH;
 use crate::rows::Kind;
 use crate::rows::count;
 use crate::rows::row_of;
@@ -37,6 +41,21 @@ pub const CLOBS: usize = INDEX + 864;
 
 pub const EDITS: usize = INDEX + 1392;
 
+// The layout of the code is the layout of the definitions.
+pub fn layout_agrees()
+    ensures { λ _. do ⌜ (← ⟦STARTS⟧ .entry) ≡ rowStarts ⌝ }
+    ensures { λ _. do ⌜ (← ⟦INDEX⟧ .entry) ≡ kindIndex ⌝ }
+    ensures { λ _. do ⌜ (← ⟦INSTS⟧ .entry) ≡ instIndex ⌝ }
+    ensures { λ _. do ⌜ (← ⟦SUCCS⟧ .entry) ≡ succIndex ⌝ }
+    ensures { λ _. do ⌜ (← ⟦PREDS⟧ .entry) ≡ predIndex ⌝ }
+    ensures { λ _. do ⌜ (← ⟦PARAMS⟧ .entry) ≡ paramIndex ⌝ }
+    ensures { λ _. do ⌜ (← ⟦OPS⟧ .entry) ≡ opIndex ⌝ }
+    ensures { λ _. do ⌜ (← ⟦CLOBS⟧ .entry) ≡ clobIndex ⌝ }
+    ensures { λ _. do ⌜ (← ⟦EDITS⟧ .entry) ≡ editIndex ⌝ }
+    ensures { λ _. do ⌜ (← ⟦LENGTH⟧ .entry) ≡ tableLength ⌝ }
+    ensures { λ _. do ⌜ (← ⟦WIDTH⟧ .entry) ≡ editWidth ⌝ }
+{}
+
 // Numbers from `from` up to, and without, `to`.
 pub struct Range {
     pub from: u32,
@@ -55,7 +74,7 @@ fn comes_before(t: &[u32], k: Kind, rows: u32, n: u32, x: u32) -> bool
 
 // At each x up to `most`: how many of the kind's rows come before the first whose first field is x or more.
 fn fill(t: &mut [u32], k: Kind, at: usize, most: u32)
-    requires { ⌜ (k .0 < 13) × (54630 ≤ at) × (at < 60000) × (most < 1000) ⌝ }
+    requires { ⌜ (k .0 < 13) × (kindIndex + 14 ≤ at) × (at < tableLength) × (most < 1000) ⌝ }
     ensures { λ _. ⌜ ((rs : List (List ℕ)) → Indexed rs (now (t .entry)) → at + most < length (now (t .entry))
         → Filled rs at (λ x. before x (ofKind (k .0) rs)) (most + 1) (now (t .entry)) (now (t .exit))) ⌝ }
 {
@@ -74,8 +93,8 @@ fn fill(t: &mut [u32], k: Kind, at: usize, most: u32)
 
 // Each block's first instruction, and after the last block their number.
 fn fill_insts(t: &mut [u32])
-    ensures { λ _. ⌜ ((rs : List (List ℕ)) → Indexed rs (now (t .entry)) → totalOf (sheetOf rs .blocks) ≤ instLimit → 54696 < length (now (t .entry))
-        → Filled rs 54632 (λ b. totalOf (take b (sheetOf rs .blocks))) (blockLimit + 1) (now (t .entry)) (now (t .exit))) ⌝ }
+    ensures { λ _. ⌜ ((rs : List (List ℕ)) → Indexed rs (now (t .entry)) → totalOf (sheetOf rs .blocks) ≤ instLimit → instIndex + blockLimit < length (now (t .entry))
+        → Filled rs instIndex (λ b. totalOf (take b (sheetOf rs .blocks))) (blockLimit + 1) (now (t .entry)) (now (t .exit))) ⌝ }
 {
     let mut b: u32 = 0;
     let mut sum: u32 = 0;
@@ -88,7 +107,7 @@ fn fill_insts(t: &mut [u32])
 }
 
 pub fn build(t: &mut [u32])
-    ensures { λ _. ⌜ ((rs : List (List ℕ)) → Indexed rs (now (t .entry)) → withinLimits (sheetOf rs) ≡ true → 56536 ≤ length (now (t .entry))
+    ensures { λ _. ⌜ ((rs : List (List ℕ)) → Indexed rs (now (t .entry)) → withinLimits (sheetOf rs) ≡ true → tableLength ≤ length (now (t .entry))
         → Indexed rs (now (t .exit)) × Built (now (t .exit))) ⌝ }
 {
     fill_insts(t);
@@ -102,7 +121,7 @@ pub fn build(t: &mut [u32])
 
 // The part of the index at `at` for x, or nothing where x is past `most`.
 fn between(t: &[u32], at: usize, most: u32, x: u32) -> Range
-    requires { ⌜ at < 60000 ⌝ }
+    requires { ⌜ at < tableLength ⌝ }
     ensures { λ r. ⌜ r ≡ rangeIn (now (t .entry)) at most x ⌝ }
 {
     if x < most {
@@ -118,43 +137,43 @@ fn between(t: &[u32], at: usize, most: u32, x: u32) -> Range
 
 // The instructions of a block.
 pub fn insts_of(t: &[u32], b: Block) -> Range
-    ensures { λ r. ⌜ r ≡ rangeIn (now (t .entry)) 54632 blockLimit (b .0) ⌝ }
+    ensures { λ r. ⌜ r ≡ rangeIn (now (t .entry)) instIndex blockLimit (b .0) ⌝ }
 {
     between(t, INSTS, Block::LIMIT, b.0)
 }
 
 pub fn succ_rows(t: &[u32], b: Block) -> Range
-    ensures { λ r. ⌜ r ≡ rangeIn (now (t .entry)) 54712 blockLimit (b .0) ⌝ }
+    ensures { λ r. ⌜ r ≡ rangeIn (now (t .entry)) succIndex blockLimit (b .0) ⌝ }
 {
     between(t, SUCCS, Block::LIMIT, b.0)
 }
 
 pub fn pred_rows(t: &[u32], b: Block) -> Range
-    ensures { λ r. ⌜ r ≡ rangeIn (now (t .entry)) 54792 blockLimit (b .0) ⌝ }
+    ensures { λ r. ⌜ r ≡ rangeIn (now (t .entry)) predIndex blockLimit (b .0) ⌝ }
 {
     between(t, PREDS, Block::LIMIT, b.0)
 }
 
 pub fn param_rows(t: &[u32], b: Block) -> Range
-    ensures { λ r. ⌜ r ≡ rangeIn (now (t .entry)) 54872 blockLimit (b .0) ⌝ }
+    ensures { λ r. ⌜ r ≡ rangeIn (now (t .entry)) paramIndex blockLimit (b .0) ⌝ }
 {
     between(t, PARAMS, Block::LIMIT, b.0)
 }
 
 pub fn op_rows(t: &[u32], i: Inst) -> Range
-    ensures { λ r. ⌜ r ≡ rangeIn (now (t .entry)) 54952 instLimit (i .0) ⌝ }
+    ensures { λ r. ⌜ r ≡ rangeIn (now (t .entry)) opIndex instLimit (i .0) ⌝ }
 {
     between(t, OPS, Inst::LIMIT, i.0)
 }
 
-pub fn clob_rows(t: &[u32], i: Inst) -> Range
-    ensures { λ r. ⌜ r ≡ rangeIn (now (t .entry)) 55480 instLimit (i .0) ⌝ }
+pub(crate) fn clob_rows(t: &[u32], i: Inst) -> Range
+    ensures { λ r. ⌜ r ≡ rangeIn (now (t .entry)) clobIndex instLimit (i .0) ⌝ }
 {
     between(t, CLOBS, Inst::LIMIT, i.0)
 }
 
 pub fn edit_rows(t: &[u32], i: Inst) -> Range
-    ensures { λ r. ⌜ r ≡ rangeIn (now (t .entry)) 56008 instLimit (i .0) ⌝ }
+    ensures { λ r. ⌜ r ≡ rangeIn (now (t .entry)) editIndex instLimit (i .0) ⌝ }
 {
     between(t, EDITS, Inst::LIMIT, i.0)
 }

@@ -17,6 +17,8 @@ use crate::rows::rest;
 use crate::rows::row_of;
 use bits::numbers::less;
 use bits::tables::read_u32;
+use entity::cells::Mark;
+use entity::cells::Word;
 use entity::forms::Constraint;
 use entity::forms::OperandKind;
 use entity::forms::Place;
@@ -25,6 +27,7 @@ use entity::numbers::EditRow;
 use entity::numbers::Inst;
 use entity::numbers::OperandIndex;
 use entity::numbers::OperandRow;
+use entity::numbers::ParamRow;
 use entity::numbers::PhysReg;
 use entity::numbers::RegClass;
 use entity::numbers::RegGroup;
@@ -32,9 +35,6 @@ use entity::numbers::SpillSlot;
 use entity::numbers::Value;
 use entity::numbers::ValueGroup;
 use entity::sets::FoundBlock;
-
-// The cell of `-`.
-pub const DASH: u32 = 100000;
 
 pub enum FoundSlot {
     At(SpillSlot),
@@ -90,7 +90,7 @@ pub fn home(t: &[u32], v: Value) -> FoundSlot
         return FoundSlot::Nothing;
     }
     let c = read_u32(row_of(t, Kind::VALUE, v.0), 2);
-    if c == DASH {
+    if c == Word::DASH {
         return FoundSlot::Nothing;
     }
     FoundSlot::At(SpillSlot(c))
@@ -115,7 +115,7 @@ pub fn idom(t: &[u32], b: Block) -> FoundBlock
         return FoundBlock::Nothing;
     }
     let c = read_u32(row_of(t, Kind::BLOCK, b.0), 3);
-    if c == DASH {
+    if c == Word::DASH {
         return FoundBlock::Nothing;
     }
     FoundBlock::At(Block(c))
@@ -146,48 +146,35 @@ pub fn clobbers(t: &[u32], i: Inst) -> &[u32]
 pub fn place_of(c: u32) -> Place
     ensures { λ p. ⌜ p ≡ placeOf c ⌝ }
 {
-    if c < 300000 {
-        Place::Reg(PhysReg(less(c, 200000)))
+    if c < Mark::SLOT {
+        Place::reg(PhysReg(less(c, Mark::REG)))
     } else {
-        Place::Slot(SpillSlot(less(c, 300000)))
+        Place::slot(SpillSlot(less(c, Mark::SLOT)))
     }
 }
 
 pub fn constraint_of(c: u32) -> Constraint
     ensures { λ r. ⌜ r ≡ constraintOf c ⌝ }
 {
-    if c < 500000 {
-        return Constraint::Class(RegClass(less(c, 400000)));
+    if c < Mark::FIXED {
+        return Constraint::Class(RegClass(less(c, Mark::CLASS)));
     }
-    if c < 600000 {
-        return Constraint::Fixed(PhysReg(less(c, 500000)));
+    if c < Mark::REUSE {
+        return Constraint::Fixed(PhysReg(less(c, Mark::FIXED)));
     }
-    Constraint::Reuse(OperandIndex(less(c, 600000)))
+    Constraint::Reuse(OperandIndex(less(c, Mark::REUSE)))
 }
-
-// The words of the operand kinds.
-const DEF: u32 = 100014;
-
-const USE: u32 = 100015;
-
-const EARLY: u32 = 100016;
-
-const DEFG: u32 = 100017;
-
-const USEG: u32 = 100018;
-
-const EARLYG: u32 = 100019;
 
 pub fn kind_of(k: u32, v: u32) -> OperandKind
     ensures { λ r. ⌜ r ≡ kindOf k v ⌝ }
 {
     match k {
-        DEF => OperandKind::Def(Value(v)),
-        USE => OperandKind::Use(Value(v)),
-        EARLY => OperandKind::EarlyDef(Value(v)),
-        DEFG => OperandKind::DefGroup(ValueGroup(v)),
-        USEG => OperandKind::UseGroup(ValueGroup(v)),
-        EARLYG => OperandKind::EarlyDefGroup(ValueGroup(v)),
+        Word::DEF => OperandKind::Def(Value(v)),
+        Word::USE => OperandKind::Use(Value(v)),
+        Word::EARLY => OperandKind::EarlyDef(Value(v)),
+        Word::DEFG => OperandKind::DefGroup(ValueGroup(v)),
+        Word::USEG => OperandKind::UseGroup(ValueGroup(v)),
+        Word::EARLYG => OperandKind::EarlyDefGroup(ValueGroup(v)),
         _ => OperandKind::NonAllocatable,
     }
 }
@@ -198,10 +185,10 @@ pub struct Param {
     pub place: Place,
 }
 
-pub fn param_at(t: &[u32], n: u32) -> Param
-    ensures { λ r. ⌜ r ≡ paramOf (paramRow (sheetIn (now (t .entry))) n) ⌝ }
+pub fn param_at(t: &[u32], n: ParamRow) -> Param
+    ensures { λ r. ⌜ r ≡ paramOf (paramRow (sheetIn (now (t .entry))) (n .0)) ⌝ }
 {
-    let row = row_of(t, Kind::PARAM, n);
+    let row = row_of(t, Kind::PARAM, n.0);
     Param {
         at: Block(read_u32(row, 1)),
         value: Value(read_u32(row, 2)),

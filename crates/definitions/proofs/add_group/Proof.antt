@@ -2,7 +2,7 @@ use mathlib.Core.Path.{sym, ap}
 use Rattle.definitions.specs.Definitions.{unitsAt}
 use Rattle.definitions.proofs.Loops.{with-as, with-none}
 use Rattle.definitions.proofs.Defining.{members-slot, members-reg}
-use Rattle.definitions.proofs.Owning.{units-none}
+use Rattle.definitions.proofs.OwnUnits.{units-none}
 use borrow.Author.Needs.{needs}
 use Rattle.definitions.proofs.add_group.Statement.{statement}
 use Rattle.definitions.proofs.add_group.Tie as tie

@@ -5,7 +5,7 @@ use lib.ListN.{length, drop}
 use Rattle.table.specs.Sheet.{sheetIn}
 use Rattle.definitions.specs.Definitions.{atReg, unitsAt}
 use Rattle.definitions.proofs.Loops.{Gathering, gather-start, gather-next, gather-end, zip-first, zip-second}
-use Rattle.definitions.proofs.Owning.{units-here, units-none}
+use Rattle.definitions.proofs.OwnUnits.{units-here, units-none}
 use borrow.Author.Needs.{needs}
 use Rattle.definitions.proofs.add_members.Statement.{statement}
 use Rattle.definitions.proofs.add_members.Tie as tie

@@ -1,7 +1,7 @@
 use Rattle.definitions.specs.Definitions.{takesEarly, takesOther}
 use Rattle.definitions.specs.declared.Pass.the-variants.{All}
 use Rattle.definitions.proofs.Defining.{taken-def, taken-early, taken-defs, taken-earlies, taken-use, taken-uses, taken-fixed, members-row}
-use Rattle.definitions.proofs.Owning.{adds-one, adds-group, adds-none}
+use Rattle.definitions.proofs.OwnUnits.{adds-one, adds-group, adds-none}
 use borrow.Author.Needs.{needs}
 use Rattle.definitions.proofs.add_operand.Statement.{statement}
 use Rattle.definitions.proofs.add_operand.Tie as tie

@@ -1,4 +1,4 @@
-use Rattle.definitions.proofs.Owning.{in-reg, in-slot}
+use Rattle.definitions.proofs.OwnUnits.{in-reg, in-slot}
 use borrow.Author.Needs.{needs}
 use Rattle.definitions.proofs.add_place.Statement.{statement}
 use Rattle.definitions.proofs.add_place.Tie as tie

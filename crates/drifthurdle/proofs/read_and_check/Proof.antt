@@ -2,8 +2,9 @@ use mathlib.Core.Path.{_∙_, ap}
 use native.Mathlib.Omega.{arith}
 use Rattle.drifthurdle.specs.Call.{asChecked}
 use Rattle.sheet.proofs.Answering.{answer-true, answer-false}
-use Rattle.drifthurdle.proofs.Refusing.{is-true, is-false, rows-refuse, rows-pass, rows-ok, some-ne-none, one-rows}
+use Rattle.drifthurdle.proofs.Refusing.{is-true, is-false, rows-refuse, rows-pass, rows-ok, one-rows}
 use borrow.Author.Needs.{needs}
+use Rattle.laws.proofs.Cases.{some-ne-none}
 use Rattle.drifthurdle.proofs.read_and_check.Statement.{statement}
 use Rattle.drifthurdle.proofs.read_and_check.Tie as tie
 

@@ -3,7 +3,7 @@ use borrow.Author.Needs.{needs}
 use Rattle.rules.specs.Accept.{operandsAt}
 use Rattle.table.specs.Sheet.{sheetIn}
 use Rattle.definitions.specs.Definitions.{taken}
-use Rattle.folding.proofs.Composing.{early-none}
+use Rattle.folding.proofs.Instructions.{early-none}
 use Rattle.folding.proofs.define_early.Statement.{statement}
 use Rattle.folding.proofs.define_early.Tie as tie
 

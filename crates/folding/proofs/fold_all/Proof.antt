@@ -4,7 +4,7 @@ use Prim.Native.Nat.{_-_, _≤_}
 use native.Mathlib.Omega.{arith}
 use lib.ListN.{length}
 use borrow.Author.Needs.{needs}
-use Rattle.folding.proofs.Composing.{Passed, rows-none, rows-on, rows-end, rows-stay}
+use Rattle.folding.proofs.Instructions.{Passed, rows-none, rows-on, rows-end, rows-stay}
 use Rattle.folding.proofs.fold_all.Statement.{statement}
 use Rattle.folding.proofs.fold_all.Tie as tie
 

@@ -6,7 +6,8 @@ use Rattle.rules.specs.Forward.{withRec, earlyDefs, otherDefs, defineAll, clobb
 use Rattle.table.specs.Sheet.{sheetIn}
 use Rattle.record.proofs.Changes.{after}
 use Rattle.definitions.specs.Definitions.{taken}
-use Rattle.folding.proofs.Composing.{early-told, walked-rec}
+use Rattle.moves.proofs.Walks.{walked-with}
+use Rattle.folding.proofs.Instructions.{early-told}
 use Rattle.folding.proofs.optimise_inst.Statement.{statement}
 use Rattle.folding.proofs.optimise_inst.Tie as tie
 
@@ -20,10 +21,9 @@ returns c g f edits n w x =
     let all = c .before .before .before .before .before .before .before .before .before .before .before .before .before .before .tell .ensures in
     let first = defineAll sh (a .b .0) (flatMap (earlyDefs sh) os) in
     let others = defineAll sh (a .b .0) (flatMap (otherDefs sh) os) in
-    walked-rec (λ s. clobber sh (a .i .0) (others s))
+    walked-with (λ s. clobber sh (a .i .0) (others s)) (after others (clobber sh (a .i .0)) (c .before .before .define-all .ensures g) (c .clobber .ensures g))
     (c .before .before .before .before .before .before .before .before .fold-all .ensures g f (a .i .0) rows all edits n (withRec first w)
-    (walked-rec first x (c .before .before .before .before .before .before .before .before .before .before .before .before .define-early .ensures g (early-told g (a .i .0) rows all))))
-    (after others (clobber sh (a .i .0)) (c .before .before .define-all .ensures g) (c .clobber .ensures g))
+    (walked-with first (c .before .before .before .before .before .before .before .before .before .before .before .before .define-early .ensures g (early-told g (a .i .0) rows all)) x))
 
 pub optimise-inst-spec : {M : Type 1} → statement M
 optimise-inst-spec =

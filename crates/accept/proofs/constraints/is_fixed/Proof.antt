@@ -1,4 +1,4 @@
-use Rattle.accept.specs.Operands.{isFixed}
+use Rattle.rules.specs.Accept.{isFixed}
 use borrow.Author.Needs.{needs}
 use Rattle.accept.proofs.constraints.is_fixed.Statement.{statement}
 use Rattle.accept.proofs.constraints.is_fixed.Tie as tie

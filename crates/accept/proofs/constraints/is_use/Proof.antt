@@ -1,11 +1,11 @@
 use mathlib.Core.Path.{sym}
-use Rattle.rules.specs.Sheet.{is, kindWord}
+use Rattle.rules.specs.Sheet.{isUse}
 use borrow.Author.Needs.{needs}
 use Rattle.accept.proofs.constraints.is_use.Statement.{statement}
 use Rattle.accept.proofs.constraints.is_use.Tie as tie
 
 pub is-use-spec : {M : Type 1} → statement M
-unfolding is kindWord
+unfolding isUse
 is-use-spec =
     tie.close
     (tie.spec

@@ -1,11 +1,11 @@
 use mathlib.Core.Path.{sym}
-use Rattle.rules.specs.Sheet.{is, kindWord}
+use Rattle.rules.specs.Sheet.{isUseGroup}
 use borrow.Author.Needs.{needs}
 use Rattle.accept.proofs.constraints.is_use_group.Statement.{statement}
 use Rattle.accept.proofs.constraints.is_use_group.Tie as tie
 
 pub is-use-group-spec : {M : Type 1} → statement M
-unfolding is kindWord
+unfolding isUseGroup
 is-use-group-spec =
     tie.close
     (tie.spec

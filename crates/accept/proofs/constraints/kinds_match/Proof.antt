@@ -1,13 +1,10 @@
-use mathlib.Core.Bool.{or-false}
-use mathlib.Core.Path.{sym, _∙_}
-use Rattle.accept.specs.Operands.{kindsMatch}
-use Rattle.rules.specs.Sheet.{is, kindWord}
+use Rattle.rules.specs.Accept.{kindsMatch}
 use borrow.Author.Needs.{needs}
 use Rattle.accept.proofs.constraints.kinds_match.Statement.{statement}
 use Rattle.accept.proofs.constraints.kinds_match.Tie as tie
 
 pub kinds-match-spec : {M : Type 1} → statement M
-unfolding kindsMatch is kindWord
+unfolding kindsMatch
 kinds-match-spec =
     tie.close
     (tie.spec
@@ -20,7 +17,7 @@ kinds-match-spec =
     (λ c. search needs)
     (λ c. search needs)
     (λ c. search needs)
-    (λ c. rw (c .before .enum-told .given .1) (c .is-use .ensures ∙ sym (or-false _)))
+    (λ c. rw (c .before .enum-told .given .1) (c .is-use .ensures))
     (λ c. rw (c .before .enum-told2 .given .1) (c .is-use-group .ensures))
     (λ c. rw (c .enum-told3 .given .1))
     (λ c. rw (c .enum-told4 .given .1))

@@ -21,7 +21,7 @@ before-edit-spec =
     (λ c. search needs)
     (λ c. search needs)
     (λ c. λ A. before-move _ _ A (c .before .before .before .before .before .e .given .1) (c .before .before .to .given .1) (c .moved .ensures A))
-    (λ c. λ A. before-load _ _ A (c .before .before .before .before .e .given .1) (c .before .enum-told .given .1) (c .with-place .ensures A))
+    (λ c. λ A. before-load _ _ A (c .before .before .before .before .e .given .1) (c .before .enum-told .given .1) (c .with-place .ensures))
     (λ c. λ A. before-remat _ _ A (c .before .before .e2 .given .1) (c .without-place .ensures A))
     (λ c. λ A. before-espill _ _ A (c .before .before .e3 .given .1) (c .remove .ensures))
     (λ c. λ A. before-ereload _ _ A (c .before .before .e4 .given .1) (c .insert .ensures))

@@ -1,12 +1,12 @@
 use native.Mathlib.Omega.{arith}
-use borrow.Author.Needs.{needs}
-use Rattle.dead_spill_elimination.specs.Slots.{gone, defsAt}
+use Rattle.rules.specs.Sweep.{withoutAll}
+use Rattle.dead_spill_elimination.specs.Slots.{defsAt}
 use Rattle.dead_spill_elimination.proofs.Down.{Going, going-first, going-next, going-done}
 use Rattle.dead_spill_elimination.proofs.wanted.without_defs.Statement.{statement}
 use Rattle.dead_spill_elimination.proofs.wanted.without_defs.Tie as tie
 
 abbrev Inv-loop : tie.InvT-loop
-Inv-loop t rows live₀ n₀ live n = Going (Unit {0}) (λ n B. gone (defsAt t n) B) rows (live₀ .0) (live .0) n
+Inv-loop t rows live₀ n₀ live n = Going (Unit {0}) (λ n B. withoutAll (defsAt t n) B) rows (live₀ .0) (live .0) n
 
 abbrev μ-loop : tie.MeasureT-loop
 μ-loop t rows live₀ n₀ live n = n

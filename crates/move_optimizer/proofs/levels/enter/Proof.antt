@@ -6,7 +6,7 @@ use Rattle.laws.specs.Lists.{from}
 use Rattle.table.specs.Index.{Ready}
 use Rattle.record.specs.Flat.{Long, recordIn}
 use Rattle.record.proofs.Changes.{becomes-same}
-use Rattle.move_optimizer.proofs.Levelling.{Passing, passing-start, Became, defines, entered-next, entered-end}
+use Rattle.move_optimizer.proofs.BlockWalks.{Passing, passing-start, Became, defines, entered-next, entered-end}
 use Rattle.move_optimizer.proofs.levels.enter.Statement.{statement}
 use Rattle.move_optimizer.proofs.levels.enter.Tie as tie
 

@@ -7,19 +7,20 @@ use Rattle.laws.specs.Fold.{run}
 use Rattle.laws.specs.Lists.{from}
 use Rattle.rules.specs.Forward.{Walk, Handed, forwardBlock, forwardStart}
 use Rattle.table.specs.Sheet.{sheetIn}
+use Rattle.table.proofs.Sheets.{blocks-counted}
 use Rattle.holders.specs.Holders.{Filled}
-use Rattle.moves.specs.Walks.{Ordered}
+use Rattle.moves.specs.Walks.{Ordered, blockMost}
 use Rattle.move_optimizer.specs.Levels.{Stands}
-use Rattle.move_optimizer.proofs.Levelling.{Passing, passing-start}
-use Rattle.move_optimizer.proofs.Handing.{blocks-counted, forward-begin, forward-next, forward-end}
+use Rattle.move_optimizer.proofs.BlockWalks.{Passing, passing-start}
+use Rattle.move_optimizer.proofs.LevelWalks.{forward-begin, forward-next, forward-end}
 use Rattle.move_optimizer.proofs.levels.forward.Statement.{statement}
 use Rattle.move_optimizer.proofs.levels.forward.Tie as tie
 
 abbrev Inv-loop : tie.InvT-loop
 Inv-loop t rec₀ classes states₀ edits₀ places₀ counts₀ n w₀ b₀ rec states edits places counts w b =
     (length edits ≡ length edits₀) × (length places ≡ length places₀) × (length counts ≡ length counts₀)
-    × (Ordered t → Filled (sheetIn t) classes → (m : ℕ) (x : Walk × Handed) → Stands t rec₀ states₀ edits₀ places₀ counts₀ (w₀ .0) (m + 1572864 * (n - b₀)) x
-    → Passing (Stands t rec states edits places counts (w .0)) (forwardBlock (sheetIn t)) 1572864 m b n (run (forwardBlock (sheetIn t)) x (from b₀ (n - b₀))))
+    × (Ordered t → Filled (sheetIn t) classes → (m : ℕ) (x : Walk × Handed) → Stands t rec₀ states₀ edits₀ places₀ counts₀ (w₀ .0) (m + blockMost * (n - b₀)) x
+    → Passing (Stands t rec states edits places counts (w .0)) (forwardBlock (sheetIn t)) blockMost m b n (run (forwardBlock (sheetIn t)) x (from b₀ (n - b₀))))
 
 abbrev μ-loop : tie.MeasureT-loop
 μ-loop t rec₀ classes states₀ edits₀ places₀ counts₀ n w₀ b₀ rec states edits places counts w b = n - b

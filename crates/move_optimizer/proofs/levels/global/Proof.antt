@@ -8,11 +8,12 @@ use Rattle.laws.specs.Lists.{from}
 use Rattle.rules.specs.Forward.{Walk, Handed, begun}
 use Rattle.rules.specs.Sheet.{blockCount}
 use Rattle.table.specs.Sheet.{sheetIn}
+use Rattle.table.proofs.Sheets.{blocks-counted}
 use Rattle.states.specs.States.{Roomy, statesIn}
 use Rattle.holders.specs.Holders.{Filled}
-use Rattle.moves.specs.Walks.{Ordered, Walked}
-use Rattle.move_optimizer.proofs.Levelling.{Passing, passing-start}
-use Rattle.move_optimizer.proofs.Handing.{blockwise, blocks-counted, block-begun, block-next, spent, global-end}
+use Rattle.moves.specs.Walks.{Ordered, Walked, allMost, blockMost}
+use Rattle.move_optimizer.proofs.BlockWalks.{Passing, passing-start}
+use Rattle.move_optimizer.proofs.LevelWalks.{blockwise, block-begun, block-next, global-end}
 use Rattle.move_optimizer.proofs.levels.global.Statement.{statement}
 use Rattle.move_optimizer.proofs.levels.global.Tie as tie
 
@@ -20,8 +21,8 @@ abbrev Inv-loop : tie.InvT-loop
 Inv-loop t rec₀ classes states edits₀ places₀ counts₀ n b₀ rec edits places counts b =
     (length edits ≡ length edits₀) × (length places ≡ length places₀) × (length counts ≡ length counts₀)
     × (Ordered t → Filled (sheetIn t) classes → (h : Handed) → Roomy states → statesIn states (blockCount (sheetIn t)) ≡ h .states → (m : ℕ) (w : Walk)
-    → Walked t rec₀ edits₀ places₀ counts₀ (m + 1572864 * (n - b₀)) w
-    → Passing (Walked t rec edits places counts) (blockwise (sheetIn t) (begun (sheetIn t) h)) 1572864 m b n (run (blockwise (sheetIn t) (begun (sheetIn t) h)) w (from b₀ (n - b₀))))
+    → Walked t rec₀ edits₀ places₀ counts₀ (m + blockMost * (n - b₀)) w
+    → Passing (Walked t rec edits places counts) (blockwise (sheetIn t) (begun (sheetIn t) h)) blockMost m b n (run (blockwise (sheetIn t) (begun (sheetIn t) h)) w (from b₀ (n - b₀))))
 
 abbrev μ-loop : tie.MeasureT-loop
 μ-loop t rec₀ classes states edits₀ places₀ counts₀ n b₀ rec edits places counts b = n - b
@@ -52,5 +53,5 @@ global-spec =
     (λ c. search needs)
     (λ c. search needs)
     (λ c o f u n w x. global-end w (o .ready) (blocks-counted _ (c .before .before .count .ensures)) (c .loop-test .left)
-    (c .before .before .before .before .before .visits .ensures o u _ (n + 100663296) w (spent n x))
+    (c .before .before .before .before .before .visits .ensures o u _ (n + allMost) w x)
     (λ h r e m w x. c .before .loop .inv .3 o f h r e m w x)))

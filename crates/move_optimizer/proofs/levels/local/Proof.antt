@@ -5,20 +5,23 @@ use Prim.Native.Nat.{ℕ, _+_, _-_, _*_}
 use lib.ListN.{length}
 use Rattle.laws.specs.Fold.{run}
 use Rattle.laws.specs.Lists.{from}
-use Rattle.rules.specs.Forward.{Walk, nothing}
+use Rattle.rules.specs.Record.{nothing}
+use Rattle.rules.specs.Forward.{Walk}
 use Rattle.table.specs.Sheet.{sheetIn}
+use Rattle.table.proofs.Sheets.{blocks-counted}
 use Rattle.holders.specs.Holders.{Filled}
-use Rattle.moves.specs.Walks.{Ordered, Walked}
-use Rattle.move_optimizer.proofs.Levelling.{Passing, passing-start}
-use Rattle.move_optimizer.proofs.Handing.{blockwise, nothing-taken, blocks-counted, block-taken, block-next, blocks-start, blocks-end, is-local}
+use Rattle.moves.specs.Walks.{Ordered, Walked, blockMost}
+use Rattle.move_optimizer.proofs.BlockWalks.{Passing, passing-start}
+use Rattle.move_optimizer.proofs.LevelWalks.{blockwise, block-taken, block-next, blocks-start, blocks-end, is-local}
+use Rattle.states.proofs.TakingIn.{nothing-taken}
 use Rattle.move_optimizer.proofs.levels.local.Statement.{statement}
 use Rattle.move_optimizer.proofs.levels.local.Tie as tie
 
 abbrev Inv-loop : tie.InvT-loop
 Inv-loop t rec₀ classes edits₀ places₀ counts₀ n b₀ rec edits places counts b =
     (length edits ≡ length edits₀) × (length places ≡ length places₀) × (length counts ≡ length counts₀)
-    × (Ordered t → Filled (sheetIn t) classes → (m : ℕ) (w : Walk) → Walked t rec₀ edits₀ places₀ counts₀ (m + 1572864 * (n - b₀)) w
-    → Passing (Walked t rec edits places counts) (blockwise (sheetIn t) (λ b. nothing)) 1572864 m b n (run (blockwise (sheetIn t) (λ b. nothing)) w (from b₀ (n - b₀))))
+    × (Ordered t → Filled (sheetIn t) classes → (m : ℕ) (w : Walk) → Walked t rec₀ edits₀ places₀ counts₀ (m + blockMost * (n - b₀)) w
+    → Passing (Walked t rec edits places counts) (blockwise (sheetIn t) (λ b. nothing)) blockMost m b n (run (blockwise (sheetIn t) (λ b. nothing)) w (from b₀ (n - b₀))))
 
 abbrev μ-loop : tie.MeasureT-loop
 μ-loop t rec₀ classes edits₀ places₀ counts₀ n b₀ rec edits places counts b = n - b

@@ -1,9 +1,13 @@
 -- `move_optimizer::levels::optimise` meets its contract, level by level. Assumes nothing.
 use borrow.Author.Needs.{needs}
 use Prim.Native.Nat.{_+_}
+use Rattle.record.specs.Layout.{recordLength}
+use Rattle.states.specs.Layout.{statesLength}
+use Rattle.moves.specs.Walks.{allMost, visitMost}
 use native.Mathlib.Omega.{arith}
-use Rattle.move_optimizer.proofs.Levelling.{written-fewer}
-use Rattle.move_optimizer.proofs.Handing.{made-unset, made-blank, made-walked, is-off, is-level}
+use Rattle.moves.proofs.Walks.{written-fewer}
+use Rattle.move_optimizer.proofs.Tables.{made-unset, made-blank, made-walked}
+use Rattle.move_optimizer.proofs.LevelWalks.{is-off, is-level}
 use Rattle.move_optimizer.proofs.levels.optimise.Statement.{statement}
 use Rattle.move_optimizer.proofs.levels.optimise.Tie as tie
 
@@ -25,18 +29,18 @@ optimise-spec =
     (λ c. search needs)
     (λ c o n w e x. is-level w (c .before .before .before .before .before .before .before .before .before .before .before .before .enum-told2 .given .1)
     (c .before .before .before .before .before .before .local .ensures o (c .before .before .before .before .before .before .before .before .before .before .before .before .before .before .fill .ensures (o .ready)
-    (made-blank 68 (omega arith))) n w (made-walked 1216 (omega arith) e (written-fewer (n + 100663296) (omega arith) x))))
+    (made-blank 68 (omega arith))) n w (made-walked recordLength (omega arith) e (written-fewer (n + allMost) (omega arith) x))))
     (λ c. search needs)
     (λ c. search needs)
     (λ c. search needs)
     (λ c o n w e x. is-level w (c .before .before .before .before .before .before .before .before .before .before .before .before .before .enum-told3 .given .1)
     (c .before .before .before .before .before .before .forward .ensures o (c .before .before .before .before .before .before .before .before .before .before .before .before .before .before .before .fill .ensures (o .ready)
-    (made-blank 68 (omega arith))) (made-unset 12352 (omega arith)) n w (made-walked 1216 (omega arith) e (written-fewer (n + 100663296)
+    (made-blank 68 (omega arith))) (made-unset statesLength (omega arith)) n w (made-walked recordLength (omega arith) e (written-fewer (n + allMost)
     (omega arith) x))))
     (λ c. search needs)
     (λ c. search needs)
     (λ c. search needs)
     (λ c o n w e x. is-level w (c .before .before .before .before .before .before .before .before .before .before .before .before .before .enum-told4 .given .1)
     (c .before .before .before .before .before .before .global .ensures o (c .before .before .before .before .before .before .before .before .before .before .before .before .before .before .before .fill .ensures (o .ready)
-    (made-blank 68 (omega arith))) (made-unset 12352 (omega arith)) n w (made-walked 1216 (omega arith) e (written-fewer (n + 100675712)
+    (made-blank 68 (omega arith))) (made-unset statesLength (omega arith)) n w (made-walked recordLength (omega arith) e (written-fewer (n + allMost + visitMost)
     (omega arith) x)))))

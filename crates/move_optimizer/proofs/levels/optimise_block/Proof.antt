@@ -8,16 +8,16 @@ use Rattle.laws.specs.Lists.{from}
 use Rattle.rules.specs.Forward.{Walk}
 use Rattle.table.specs.Sheet.{sheetIn}
 use Rattle.holders.specs.Holders.{Filled}
-use Rattle.moves.specs.Walks.{Ordered, Walked}
-use Rattle.move_optimizer.proofs.Levelling.{Passing, passing-start, optimises, optimised-start, optimised-next, optimised-end}
+use Rattle.moves.specs.Walks.{Ordered, Walked, instMost}
+use Rattle.move_optimizer.proofs.BlockWalks.{Passing, passing-start, optimises, optimised-start, optimised-next, optimised-end}
 use Rattle.move_optimizer.proofs.levels.optimise_block.Statement.{statement}
 use Rattle.move_optimizer.proofs.levels.optimise_block.Tie as tie
 
 abbrev Inv-loop : tie.InvT-loop
 Inv-loop t rec₀ classes edits₀ places₀ counts₀ b to i₀ rec edits places counts i =
     (length edits ≡ length edits₀) × (length places ≡ length places₀) × (length counts ≡ length counts₀)
-    × (Ordered t → Filled (sheetIn t) classes → (n : ℕ) (w : Walk) → Walked t rec₀ edits₀ places₀ counts₀ (n + 3072 * (to - i₀)) w
-    → Passing (Walked t rec edits places counts) (optimises (sheetIn t) (b .0)) 3072 n i to (run (optimises (sheetIn t) (b .0)) w (from i₀ (to - i₀))))
+    × (Ordered t → Filled (sheetIn t) classes → (n : ℕ) (w : Walk) → Walked t rec₀ edits₀ places₀ counts₀ (n + instMost * (to - i₀)) w
+    → Passing (Walked t rec edits places counts) (optimises (sheetIn t) (b .0)) instMost n i to (run (optimises (sheetIn t) (b .0)) w (from i₀ (to - i₀))))
 
 abbrev μ-loop : tie.MeasureT-loop
 μ-loop t rec₀ classes edits₀ places₀ counts₀ b to i₀ rec edits places counts i = to - i

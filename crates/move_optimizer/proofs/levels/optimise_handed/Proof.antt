@@ -1,6 +1,6 @@
 -- `move_optimizer::levels::optimise_handed` meets its contract. Assumes nothing.
 use borrow.Author.Needs.{needs}
-use Rattle.move_optimizer.proofs.Handing.{block-taken}
+use Rattle.move_optimizer.proofs.LevelWalks.{block-taken}
 use Rattle.move_optimizer.proofs.levels.optimise_handed.Statement.{statement}
 use Rattle.move_optimizer.proofs.levels.optimise_handed.Tie as tie
 

@@ -9,7 +9,7 @@ use Rattle.table.specs.Edits.{editsIn}
 use Rattle.record.specs.Flat.{Long, recordIn}
 use Rattle.record.proofs.Changes.{becomes-same}
 use Rattle.moves.specs.Walks.{Ordered}
-use Rattle.move_optimizer.proofs.Levelling.{Passing, passing-start, Became, prepares, prepared-next, prepared-end}
+use Rattle.move_optimizer.proofs.BlockWalks.{Passing, passing-start, Became, prepares, prepared-next, prepared-end}
 use Rattle.move_optimizer.proofs.levels.prepare_block.Statement.{statement}
 use Rattle.move_optimizer.proofs.levels.prepare_block.Tie as tie
 

@@ -1,6 +1,6 @@
 -- `move_optimizer::levels::visit` meets its contract: an exit block, or one that is walked. Assumes nothing.
 use borrow.Author.Needs.{needs}
-use Rattle.move_optimizer.proofs.Handing.{visit-exit, visit-on}
+use Rattle.move_optimizer.proofs.Visits.{visit-exit, visit-on}
 use Rattle.move_optimizer.proofs.levels.visit.Statement.{statement}
 use Rattle.move_optimizer.proofs.levels.visit.Tie as tie
 

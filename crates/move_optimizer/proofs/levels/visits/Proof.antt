@@ -9,9 +9,9 @@ use Rattle.rules.specs.Forward.{Walk, Handed, visits, globalStart}
 use Rattle.table.specs.Sheet.{sheetIn}
 use Rattle.visiting.proofs.Loops.{capped}
 use Rattle.moves.specs.Walks.{Ordered}
+use Rattle.moves.proofs.Walks.{walked-fewer}
 use Rattle.move_optimizer.specs.Levels.{Stands}
-use Rattle.move_optimizer.proofs.Levelling.{walked-fewer}
-use Rattle.move_optimizer.proofs.Handing.{Walking, walking-start, walking-again, walking-stop, walking-out}
+use Rattle.move_optimizer.proofs.Visits.{Walking, walking-start, walking-again, walking-stop, walking-out}
 use Rattle.move_optimizer.proofs.levels.visits.Statement.{statement}
 use Rattle.move_optimizer.proofs.levels.visits.Tie as tie
 

@@ -4,6 +4,7 @@ use mathlib.Core.Option.{none}
 use Prim.Native.Nat.{_+_, _-_, _≤_}
 use native.Mathlib.Omega.{arith}
 use lib.ListN.{drop}
+use Rattle.entity.specs.Limits.{instLimit}
 use Rattle.rules.specs.Sheet.{totalOf}
 use Rattle.table.specs.Sheet.{sheetIn}
 use Rattle.table.proofs.Sheets.{long-of, blocks-are}
@@ -13,7 +14,7 @@ use Rattle.names.proofs.limits.inst_total.Statement.{statement}
 use Rattle.names.proofs.limits.inst_total.Tie as tie
 
 abbrev Inv-loop : tie.InvT-loop
-Inv-loop t blocks b₀ sum₀ b sum = (sum ≤ 512) × (sum + totalOf (drop b (sheetIn t .blocks)) ≡ totalOf (sheetIn t .blocks))
+Inv-loop t blocks b₀ sum₀ b sum = (sum ≤ instLimit) × (sum + totalOf (drop b (sheetIn t .blocks)) ≡ totalOf (sheetIn t .blocks))
 
 abbrev μ-loop : tie.MeasureT-loop
 μ-loop t blocks b₀ sum₀ b sum = blocks - b

@@ -1,6 +1,7 @@
 use Prim.Native.Nat.{_≤_, _-_}
 use native.Mathlib.Omega.{arith}
 use borrow.Author.Needs.{needs}
+use Rattle.record.specs.Layout.{heldAt, storedAt}
 use Rattle.record.specs.Flat.{Long}
 use Rattle.laws.proofs.Lists.{MapTo}
 use Rattle.record.proofs.Rules.{passed, drop-none, drop-next, drop-end}
@@ -8,10 +9,10 @@ use Rattle.record.proofs.steps.drop_value.Statement.{statement}
 use Rattle.record.proofs.steps.drop_value.Tie as tie
 
 abbrev Inv-loop : tie.InvT-loop
-Inv-loop rec₀ v i₀ rec i = (256 ≤ i) × (i ≤ 384) × (Long rec₀ → MapTo 0 (passed (v .0)) rec₀ i rec)
+Inv-loop rec₀ v i₀ rec i = (heldAt ≤ i) × (i ≤ storedAt) × (Long rec₀ → MapTo 0 (passed (v .0)) rec₀ i rec)
 
 abbrev μ-loop : tie.MeasureT-loop
-μ-loop rec₀ v i₀ rec i = 384 - i
+μ-loop rec₀ v i₀ rec i = storedAt - i
 
 pub drop-value-spec : {M : Type 1} → statement M
 drop-value-spec =

@@ -2,6 +2,7 @@
 -- Assumes nothing.
 use mathlib.Core.Path.{sym, _∙_, ap}
 use Prim.Native.Nat.{ℕ}
+use Rattle.rules.specs.Cells.{wordMark}
 use native.Mathlib.Omega.{arith}
 use Rattle.sheet.specs.Answers.{asNum}
 use Rattle.sheet.specs.Packing.{findNum, packed}
@@ -19,4 +20,4 @@ word-spec = tie.close (tie.spec
     (λ c.
     let f = c .before .before .before .before .args .f .now in
     let bytes = c .before .before .before .shared-slice-known .given in
-    c .lookup .ensures ∙ ap (λ (w : ℕ). asNum (findNum w 100000 packed)) (c .before .packed .ensures) ∙ ap asNum (sym (word-pack f (λ i. bytes i .fits)))))
+    c .lookup .ensures ∙ ap (λ (w : ℕ). asNum (findNum w wordMark packed)) (c .before .packed .ensures) ∙ ap asNum (sym (word-pack f (λ i. bytes i .fits)))))

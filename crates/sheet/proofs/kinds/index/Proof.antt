@@ -1,6 +1,7 @@
 use mathlib.Core.Path.{_≡_, refl, sym, _∙_}
 use mathlib.Core.List.{List}
 use Prim.Native.Nat.{ℕ, _≤_, _<_, _+_, _-_}
+use Rattle.rules.specs.Words.{slotsWord}
 use Rattle.rules.specs.Rows.{kind}
 use Rattle.table.specs.Table.{Holds, Rising}
 use Rattle.table.specs.Rows.{rowIn}
@@ -19,12 +20,12 @@ abbrev μ-loop : tie.MeasureT-loop
 -- what the test says of row i, where it passes and where it does not
 is-here : (c : tie.Then1 Inv-loop μ-loop)
     → let l = c .before .before .before .before in
-    (l .loop .i < l .before .before .args .n) × (kind (rowIn (l .loop .t) (l .loop .i)) < 100001 + l .loop .k)
+    (l .loop .i < l .before .before .args .n) × (kind (rowIn (l .loop .t) (l .loop .i)) < slotsWord + l .loop .k)
 is-here c = is-before _ _ _ _ (sym (c .before .earlier .ensures) ∙ c .if1 .taken)
 
 not-here : (c : tie.Else1 Inv-loop μ-loop)
     → let l = c .before .before .before .before in
-    l .loop .i < l .before .before .args .n → 100001 + l .loop .k ≤ kind (rowIn (l .loop .t) (l .loop .i))
+    l .loop .i < l .before .before .args .n → slotsWord + l .loop .k ≤ kind (rowIn (l .loop .t) (l .loop .i))
 not-here c = not-before _ _ _ _ (sym (c .before .earlier .ensures) ∙ c .if1 .left)
 
 pub index-spec : {M : Type 1} → statement M

@@ -1,3 +1,4 @@
+use Rattle.rules.specs.Words.{fixedWord}
 use Rattle.rules.specs.Rows.{number, dash, place, constraint, fieldOk, fits, reading}
 use lib.Dec.{eqb}
 use Rattle.sheet.proofs.Fitting.{chain-5}
@@ -16,4 +17,4 @@ fixed-spec =
     (λ c κs. search needs)
     (λ c.
     let a = c .before .before .before .before .args in
-    rw (c .before .before .before .number .ensures, c .before .before .dash .ensures, c .before .constraint .ensures, c .place .ensures) (chain-5 (fieldOk number (a .inst)) (eqb (a .kind) 100020) (fieldOk dash (a .subject)) (fieldOk constraint (a .by)) (fieldOk place (a .at)))))
+    rw (c .before .before .before .number .ensures, c .before .before .dash .ensures, c .before .constraint .ensures, c .place .ensures) (chain-5 (fieldOk number (a .inst)) (eqb (a .kind) fixedWord) (fieldOk dash (a .subject)) (fieldOk constraint (a .by)) (fieldOk place (a .at)))))

@@ -1,3 +1,4 @@
+use Rattle.rules.specs.Words.{moveWord}
 use Rattle.rules.specs.Rows.{number, place, fieldOk, fits, reading}
 use lib.Dec.{eqb}
 use Rattle.sheet.proofs.Fitting.{chain-5}
@@ -16,4 +17,4 @@ moved-spec =
     (λ c κs. search needs)
     (λ c.
     let a = c .before .before .before .before .args in
-    rw (c .before .before .before .number .ensures, c .before .before .place .ensures, c .before .place2 .ensures, c .number2 .ensures) (chain-5 (fieldOk number (a .inst)) (eqb (a .kind) 100021) (fieldOk place (a .to)) (fieldOk place (a .from)) (fieldOk number (a .value)))))
+    rw (c .before .before .before .number .ensures, c .before .before .place .ensures, c .before .place2 .ensures, c .number2 .ensures) (chain-5 (fieldOk number (a .inst)) (eqb (a .kind) moveWord) (fieldOk place (a .to)) (fieldOk place (a .from)) (fieldOk number (a .value)))))

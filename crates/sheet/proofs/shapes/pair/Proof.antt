@@ -1,3 +1,4 @@
+use Rattle.rules.specs.Words.{ereloadWord, espillWord}
 use Rattle.rules.specs.Rows.{number, dash, place, fieldOk, fits, reading}
 use lib.Dec.{leb}
 use mathlib.Core.Bool.{_&&_}
@@ -17,4 +18,4 @@ pair-spec =
     (λ c κs. search needs)
     (λ c.
     let a = c .before .before .before .before .args in
-    rw (c .before .before .before .number .ensures, c .before .before .place .ensures, c .before .place2 .ensures, c .dash .ensures) (chain-5 (fieldOk number (a .inst)) (leb 100023 (a .kind) && leb (a .kind) 100024) (fieldOk place (a .to)) (fieldOk place (a .from)) (fieldOk dash (a .value)))))
+    rw (c .before .before .before .number .ensures, c .before .before .place .ensures, c .before .place2 .ensures, c .dash .ensures) (chain-5 (fieldOk number (a .inst)) (leb espillWord (a .kind) && leb (a .kind) ereloadWord) (fieldOk place (a .to)) (fieldOk place (a .from)) (fieldOk dash (a .value)))))

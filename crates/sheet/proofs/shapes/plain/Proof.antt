@@ -1,3 +1,4 @@
+use Rattle.rules.specs.Words.{defWord, earlygWord}
 use Rattle.rules.specs.Rows.{number, place, constraint, fieldOk, fits, reading}
 use lib.Dec.{leb}
 use mathlib.Core.Bool.{_&&_}
@@ -18,4 +19,4 @@ plain-spec =
     (λ c κs. search needs)
     (λ c.
     let a = c .before .before .before .before .args in
-    rw (c .before .before .before .number .ensures, c .before .before .number2 .ensures, c .before .constraint .ensures, c .place .ensures) (chain-5 (fieldOk number (a .inst)) (leb 100014 (a .kind) && leb (a .kind) 100019) (fieldOk number (a .subject)) (fieldOk constraint (a .by)) (fieldOk place (a .at)))))
+    rw (c .before .before .before .number .ensures, c .before .before .number2 .ensures, c .before .constraint .ensures, c .place .ensures) (chain-5 (fieldOk number (a .inst)) (leb defWord (a .kind) && leb (a .kind) earlygWord) (fieldOk number (a .subject)) (fieldOk constraint (a .by)) (fieldOk place (a .at)))))

@@ -1,3 +1,4 @@
+use Rattle.rules.specs.Words.{rematWord}
 use Rattle.rules.specs.Rows.{number, dash, place, fieldOk, fits, reading}
 use lib.Dec.{eqb}
 use Rattle.sheet.proofs.Fitting.{chain-5}
@@ -16,4 +17,4 @@ remat-spec =
     (λ c κs. search needs)
     (λ c.
     let a = c .before .before .before .before .args in
-    rw (c .before .before .before .number .ensures, c .before .before .place .ensures, c .before .dash .ensures, c .number2 .ensures) (chain-5 (fieldOk number (a .inst)) (eqb (a .kind) 100022) (fieldOk place (a .to)) (fieldOk dash (a .from)) (fieldOk number (a .value)))))
+    rw (c .before .before .before .number .ensures, c .before .before .place .ensures, c .before .dash .ensures, c .number2 .ensures) (chain-5 (fieldOk number (a .inst)) (eqb (a .kind) rematWord) (fieldOk place (a .to)) (fieldOk dash (a .from)) (fieldOk number (a .value)))))

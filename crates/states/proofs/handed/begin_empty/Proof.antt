@@ -1,4 +1,4 @@
-use Rattle.states.proofs.Stated.{begun-empty}
+use Rattle.states.proofs.TakingIn.{begun-empty}
 use Rattle.states.proofs.Spans.{span-front}
 use mathlib.Core.Path.{_≡_, refl, sym, ap, _∙_}
 use mathlib.Core.Bool.{cond}
@@ -6,6 +6,8 @@ use Prim.Native.Nat.{ℕ, _+_, _*_, _≤_, _-_, _<_}
 use native.Mathlib.Omega.{arith}
 use lib.Dec.{eqb}
 use lib.ListN.{length, getD}
+use Rattle.rules.specs.Record.{absent}
+use Rattle.record.specs.Layout.{definedAt}
 use Rattle.record.specs.Flat.{Long}
 use Rattle.states.specs.States.{Roomy, handedIn}
 use Rattle.states.proofs.Spans.{Span, span-none, span-store}
@@ -16,10 +18,10 @@ use Rattle.states.proofs.handed.begin_empty.Reads as reads
 use Rattle.states.proofs.handed.begin_empty.Lts as lts
 
 abbrev Inv-loop : tie.InvT-loop
-Inv-loop rec₀ i₀ rec i = (i ≤ 448) × (Long rec₀ → Span 0 (λ j. 65535) rec₀ i rec)
+Inv-loop rec₀ i₀ rec i = (i ≤ definedAt) × (Long rec₀ → Span 0 (λ j. absent) rec₀ i rec)
 
 abbrev μ-loop : tie.MeasureT-loop
-μ-loop rec₀ i₀ rec i = 448 - i
+μ-loop rec₀ i₀ rec i = definedAt - i
 
 -- src/states.rt:56:5
 loop-holds : tie.Need-loop-holds Inv-loop μ-loop
@@ -51,7 +53,7 @@ loop-again c = (omega arith, λ r. span-front _ _ _ _ _ (c .before .loop .inv .1
 
 -- src/states.rt:54:1
 returns : tie.Need-returns Inv-loop μ-loop
-returns c = λ r. begun-empty _ _ r (let e : c .before .loop .i ≡ 448 = omega arith in rw e at (c .before .loop .inv .1 r))
+returns c = λ r. begun-empty _ _ r (let e : c .before .loop .i ≡ definedAt = omega arith in rw e at (c .before .loop .inv .1 r))
 
 pub begin-empty-spec : {M : Type 1} → statement M
 begin-empty-spec =

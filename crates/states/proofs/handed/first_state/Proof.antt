@@ -1,4 +1,5 @@
-use Rattle.states.proofs.Stated.{marked, first-known, unset-sets}
+use Rattle.states.proofs.Cells.{marked, unset-sets}
+use Rattle.states.proofs.FirstStates.{first-known}
 use borrow.Author.Needs.{needs}
 use mathlib.Core.Path.{_≡_, refl, sym, ap, _∙_}
 use mathlib.Core.Bool.{cond}
@@ -6,7 +7,9 @@ use Prim.Native.Nat.{ℕ, _+_, _*_, _≤_, _-_, _<_}
 use native.Mathlib.Omega.{arith}
 use lib.Dec.{eqb}
 use lib.ListN.{length, getD}
+use Rattle.record.specs.Layout.{heldAt}
 use Rattle.record.specs.Flat.{Long}
+use Rattle.states.specs.Layout.{knownSize}
 use Rattle.states.specs.States.{Roomy, handedIn}
 use Rattle.states.proofs.Spans.{Span, span-none, span-store}
 use Rattle.states.proofs.handed.first_state.Statement.{statement}
@@ -17,10 +20,10 @@ use Rattle.states.proofs.handed.handed.Reads as handed-reads
 use Rattle.states.proofs.handed.mark.Reads as mark-reads
 
 abbrev Inv-loop : tie.InvT-loop
-Inv-loop rec states₀ sole b at i₀ states i = (i ≤ 192) × (Roomy states₀ → Span at (λ j. handedIn rec sole (b .0) (getD rec (256 + j) 0)) states₀ i states)
+Inv-loop rec states₀ sole b at i₀ states i = (i ≤ knownSize) × (Roomy states₀ → Span at (λ j. handedIn rec sole (b .0) (getD rec (heldAt + j) 0)) states₀ i states)
 
 abbrev μ-loop : tie.MeasureT-loop
-μ-loop rec states₀ sole b at i₀ states i = 192 - i
+μ-loop rec states₀ sole b at i₀ states i = knownSize - i
 
 -- src/states.rt:142:9
 mark-requires : tie.Need-mark-requires Inv-loop μ-loop
@@ -80,7 +83,7 @@ loop-again c = (omega arith, λ r. span-store _ _ _ _ _ _ (c .before .before .be
 
 -- src/states.rt:138:1
 returns : tie.Need-returns Inv-loop μ-loop
-returns c = let e : c .before .loop .i ≡ 192 = omega arith in λ sh l r. let a = c .before .before .before .before .before .before .before .args in marked (λ j. handedIn (a .rec .now) (a .sole) (a .b .0) (getD (a .rec .now) (256 + j) 0)) _ _ _ _ _ (omega arith) (c .before .before .before .mark .ensures) r (λ q. rw e at (c .before .loop .inv .1 q)) (λ q p. first-known _ _ _ q sh (a .rec .now) l (a .sole) (a .b .0) p)
+returns c = let e : c .before .loop .i ≡ knownSize = omega arith in λ sh l r. let a = c .before .before .before .before .before .before .before .args in marked (λ j. handedIn (a .rec .now) (a .sole) (a .b .0) (getD (a .rec .now) (heldAt + j) 0)) _ _ _ _ _ (omega arith) (c .before .before .before .mark .ensures) r (λ q. rw e at (c .before .loop .inv .1 q)) (λ q p. first-known _ _ _ q sh (a .rec .now) l (a .sole) (a .b .0) p)
 
 -- src/states.rt:138:1
 returns-2 : tie.Need-returns-2 Inv-loop μ-loop

@@ -9,7 +9,7 @@ use Rattle.table.specs.Sheet.{sheetIn}
 use Rattle.table.specs.Index.{Ready}
 use Rattle.record.specs.Flat.{Long, recordIn}
 use Rattle.states.specs.States.{Lies}
-use Rattle.states.proofs.Stated.{hand-next, hand-end}
+use Rattle.states.proofs.HandingOn.{hand-next, hand-end}
 use borrow.Author.Needs.{needs}
 use Rattle.states.proofs.handed.hand_on.Statement.{statement}
 use Rattle.states.proofs.handed.hand_on.Tie as tie

@@ -1,6 +1,6 @@
 use mathlib.Core.Path.{_≡_, refl, sym, _∙_}
 use Rattle.table.proofs.Loops.{never}
-use Rattle.states.proofs.Stated.{hand-met, hand-first}
+use Rattle.states.proofs.HandingOn.{hand-met, hand-first}
 use borrow.Author.Needs.{needs}
 use Rattle.states.proofs.handed.hand_to.Statement.{statement}
 use Rattle.states.proofs.handed.hand_to.Tie as tie

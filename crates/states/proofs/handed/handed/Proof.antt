@@ -1,4 +1,4 @@
-use Rattle.states.proofs.Stated.{handed-yes, handed-no}
+use Rattle.states.proofs.FirstStates.{handed-yes, handed-no}
 use borrow.Author.Needs.{needs}
 use Rattle.states.proofs.handed.handed.Statement.{statement}
 use Rattle.states.proofs.handed.handed.Tie as tie

@@ -1,5 +1,5 @@
 use native.Mathlib.Omega.{arith}
-use Rattle.states.proofs.Stated.{set-hit, set-miss}
+use Rattle.states.proofs.Cells.{set-hit, set-miss}
 use borrow.Author.Needs.{needs}
 use Rattle.states.proofs.handed.is_set.Statement.{statement}
 use Rattle.states.proofs.handed.is_set.Tie as tie

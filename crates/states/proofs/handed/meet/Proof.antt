@@ -1,5 +1,5 @@
-use Rattle.states.proofs.Stated.{met-next}
-use Rattle.states.proofs.Stated.{met, unmet}
+use Rattle.states.proofs.Meeting.{met-next}
+use Rattle.states.proofs.Meeting.{met, unmet}
 use mathlib.Core.Path.{_≡_, refl, sym, ap, _∙_}
 use mathlib.Core.Bool.{cond}
 use mathlib.Core.List.{List}
@@ -8,6 +8,7 @@ use native.Mathlib.Omega.{arith}
 use lib.Dec.{eqb}
 use lib.ListN.{length, getD}
 use Rattle.record.specs.Flat.{Long}
+use Rattle.states.specs.Layout.{knownSize}
 use Rattle.states.specs.States.{Roomy, metAt}
 use Rattle.states.proofs.Spans.{Span, span-none, span-store, Kept, kept-none, kept-next}
 use borrow.Author.Needs.{needs}
@@ -20,10 +21,10 @@ use Rattle.states.proofs.handed.gone.Reads as gone-reads
 
 abbrev Inv-loop : tie.InvT-loop
 Inv-loop rec states₀ went₀ at i₀ states went i =
-    (i ≤ 192) × (Roomy states₀ → Span at (metAt rec states₀ at) states₀ i states × Kept (metAt rec states₀ at) (λ j. getD states₀ (at + j) 0) i went)
+    (i ≤ knownSize) × (Roomy states₀ → Span at (metAt rec states₀ at) states₀ i states × Kept (metAt rec states₀ at) (λ j. getD states₀ (at + j) 0) i went)
 
 abbrev μ-loop : tie.MeasureT-loop
-μ-loop rec states₀ went₀ at i₀ states went i = 192 - i
+μ-loop rec states₀ went₀ at i₀ states went i = knownSize - i
 
 -- src/states.rt:171:18
 cast-at : tie.Need-cast-at Inv-loop μ-loop
@@ -91,11 +92,11 @@ loop-less c = search needs
 
 -- src/states.rt:173:9
 loop-again : tie.Need-loop-again Inv-loop μ-loop
-loop-again c = let a = c .before .before .before .before .before .before .before .before .before .args in (omega arith, λ r. met-next (a .rec .now) (a .states .now) (a .b .0 * 192) _ _ _ _ _ (c .before .before .before .before .before .loop .inv .1 r .0) (c .before .before .before .before .before .loop .inv .1 r .1) (omega arith) (c .before .both .ensures) (c .gone .ensures))
+loop-again c = let a = c .before .before .before .before .before .before .before .before .before .args in (omega arith, λ r. met-next (a .rec .now) (a .states .now) (a .b .0 * knownSize) _ _ _ _ _ (c .before .before .before .before .before .loop .inv .1 r .0) (c .before .before .before .before .before .loop .inv .1 r .1) (omega arith) (c .before .both .ensures) (c .gone .ensures))
 
 -- src/states.rt:168:1
 returns : tie.Need-returns Inv-loop μ-loop
-returns c = let e : c .before .loop .i ≡ 192 = omega arith in λ sh l r h. let x = c .before .loop .inv .1 r in met sh _ _ _ _ _ l r (omega arith) h (rw e at (x .0)) (rw e at (x .1))
+returns c = let e : c .before .loop .i ≡ knownSize = omega arith in λ sh l r h. let x = c .before .loop .inv .1 r in met sh _ _ _ _ _ l r (omega arith) h (rw e at (x .0)) (rw e at (x .1))
 
 -- src/states.rt:168:1
 returns-2 : tie.Need-returns-2 Inv-loop μ-loop

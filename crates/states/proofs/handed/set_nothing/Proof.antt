@@ -1,11 +1,14 @@
-use Rattle.states.proofs.Stated.{marked, nothing-known, unset-sets}
+use Rattle.states.proofs.Cells.{marked, unset-sets}
+use Rattle.states.proofs.FirstStates.{nothing-known}
 use mathlib.Core.Path.{_≡_, refl, sym, ap, _∙_}
 use mathlib.Core.Bool.{cond}
 use Prim.Native.Nat.{ℕ, _+_, _*_, _≤_, _-_, _<_}
 use native.Mathlib.Omega.{arith}
 use lib.Dec.{eqb}
 use lib.ListN.{length, getD}
+use Rattle.rules.specs.Record.{absent}
 use Rattle.record.specs.Flat.{Long}
+use Rattle.states.specs.Layout.{knownSize}
 use Rattle.states.specs.States.{Roomy, handedIn}
 use Rattle.states.proofs.Spans.{Span, span-none, span-store}
 use borrow.Author.Needs.{needs}
@@ -16,10 +19,10 @@ use Rattle.states.proofs.handed.set_nothing.Lts as lts
 use Rattle.states.proofs.handed.mark.Reads as mark-reads
 
 abbrev Inv-loop : tie.InvT-loop
-Inv-loop states₀ at i₀ states i = (i ≤ 192) × (Roomy states₀ → Span at (λ j. 65535) states₀ i states)
+Inv-loop states₀ at i₀ states i = (i ≤ knownSize) × (Roomy states₀ → Span at (λ j. absent) states₀ i states)
 
 abbrev μ-loop : tie.MeasureT-loop
-μ-loop states₀ at i₀ states i = 192 - i
+μ-loop states₀ at i₀ states i = knownSize - i
 
 -- src/states.rt:43:9
 mark-requires : tie.Need-mark-requires Inv-loop μ-loop
@@ -63,7 +66,7 @@ loop-again c = (omega arith, λ r. span-store _ _ _ _ _ _ (c .before .loop .inv 
 
 -- src/states.rt:41:1
 returns : tie.Need-returns Inv-loop μ-loop
-returns c = let e : c .before .loop .i ≡ 192 = omega arith in λ r. marked (λ j. 65535) _ _ _ _ _ (omega arith) (c .before .before .before .mark .ensures) r (λ q. rw e at (c .before .loop .inv .1 q)) (λ q p. nothing-known _ _ _ q p)
+returns c = let e : c .before .loop .i ≡ knownSize = omega arith in λ r. marked (λ j. absent) _ _ _ _ _ (omega arith) (c .before .before .before .mark .ensures) r (λ q. rw e at (c .before .loop .inv .1 q)) (λ q p. nothing-known _ _ _ q p)
 
 -- src/states.rt:41:1
 returns-2 : tie.Need-returns-2 Inv-loop μ-loop

@@ -3,7 +3,8 @@ use mathlib.Core.Bool.{true}
 use native.Mathlib.Omega.{arith}
 use Rattle.table.specs.Sheet.{sheetIn}
 use Rattle.states.specs.States.{isSet}
-use Rattle.states.proofs.Stated.{takes, takes-nothing, set-small}
+use Rattle.states.proofs.TakingIn.{takes, takes-nothing}
+use Rattle.states.proofs.Cells.{set-small}
 use borrow.Author.Needs.{needs}
 use Rattle.states.proofs.handed.take_in.Statement.{statement}
 use Rattle.states.proofs.handed.take_in.Tie as tie

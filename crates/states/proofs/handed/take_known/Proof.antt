@@ -1,11 +1,13 @@
-use Rattle.states.proofs.Stated.{taken}
+use Rattle.states.proofs.TakingIn.{taken}
 use mathlib.Core.Path.{_≡_, refl, sym, ap, _∙_}
 use mathlib.Core.Bool.{cond}
 use Prim.Native.Nat.{ℕ, _+_, _*_, _≤_, _-_, _<_}
 use native.Mathlib.Omega.{arith}
 use lib.Dec.{eqb}
 use lib.ListN.{length, getD}
+use Rattle.record.specs.Layout.{heldAt}
 use Rattle.record.specs.Flat.{Long}
+use Rattle.states.specs.Layout.{knownSize}
 use Rattle.states.specs.States.{Roomy, handedIn}
 use Rattle.states.proofs.Spans.{Span, span-none, span-store}
 use borrow.Author.Needs.{needs}
@@ -15,10 +17,10 @@ use Rattle.states.proofs.handed.take_known.Reads as reads
 use Rattle.states.proofs.handed.take_known.Lts as lts
 
 abbrev Inv-loop : tie.InvT-loop
-Inv-loop rec₀ states at i₀ rec i = (i ≤ 192) × (Long rec₀ → Span 256 (λ j. getD states (at + j) 0) rec₀ i rec)
+Inv-loop rec₀ states at i₀ rec i = (i ≤ knownSize) × (Long rec₀ → Span heldAt (λ j. getD states (at + j) 0) rec₀ i rec)
 
 abbrev μ-loop : tie.MeasureT-loop
-μ-loop rec₀ states at i₀ rec i = 192 - i
+μ-loop rec₀ states at i₀ rec i = knownSize - i
 
 -- src/states.rt:65:18
 cast-at : tie.Need-cast-at Inv-loop μ-loop
@@ -70,7 +72,7 @@ loop-again c = (omega arith, λ r. span-store _ _ _ _ _ _ (c .before .before .lo
 
 -- src/states.rt:63:1
 returns : tie.Need-returns Inv-loop μ-loop
-returns c = let e : c .before .loop .i ≡ 192 = omega arith in λ l r h. taken _ _ l _ _ r h (rw e at (c .before .loop .inv .1 l))
+returns c = let e : c .before .loop .i ≡ knownSize = omega arith in λ l r h. taken _ _ l _ _ r h (rw e at (c .before .loop .inv .1 l))
 
 -- src/states.rt:63:1
 returns-2 : tie.Need-returns-2 Inv-loop μ-loop

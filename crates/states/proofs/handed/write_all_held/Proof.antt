@@ -6,8 +6,8 @@ use Rattle.laws.specs.Lists.{from}
 use Rattle.table.specs.Sheet.{sheetIn}
 use Rattle.table.proofs.Sheets.{regs-are, long-of}
 use Rattle.record.specs.Flat.{Long, Becomes, recordIn}
-use Rattle.states.specs.States.{writeHeld}
-use Rattle.states.proofs.Stated.{writes-next}
+use Rattle.rules.specs.Forward.{writeHeld}
+use Rattle.states.proofs.TakingIn.{writes-next}
 use borrow.Author.Needs.{needs}
 use Prim.Native.Nat.{_≤_, _-_}
 use Rattle.states.proofs.handed.write_all_held.Statement.{statement}
@@ -19,7 +19,7 @@ use Rattle.table.proofs.rows.count.Reads as count-reads
 
 abbrev Inv-loop : tie.InvT-loop
 Inv-loop t rec₀ n r₀ rec r =
-    (r ≤ n) × (Long rec₀ → Becomes rec₀ rec (run (writeHeld (sheetIn t) (recordIn rec₀ .held)) (recordIn rec₀) (from 0 r)))
+    (r ≤ n) × (Long rec₀ → Becomes rec₀ rec (run (writeHeld (sheetIn t) (recordIn rec₀ .known .held)) (recordIn rec₀) (from 0 r)))
 
 abbrev μ-loop : tie.MeasureT-loop
 μ-loop t rec₀ n r₀ rec r = n - r

@@ -1,5 +1,5 @@
 use Rattle.table.specs.Sheet.{sheetIn}
-use Rattle.states.proofs.Stated.{held-written, held-not}
+use Rattle.states.proofs.TakingIn.{held-written, held-not}
 use borrow.Author.Needs.{needs}
 use Rattle.states.proofs.handed.write_held.Statement.{statement}
 use Rattle.states.proofs.handed.write_held.Tie as tie

@@ -7,10 +7,10 @@ use Rattle.rules.specs.Forward.{beginsEmpty}
 use Rattle.table.specs.Sheet.{sheetIn}
 use Rattle.table.specs.Index.{Ready}
 use Rattle.table.proofs.Sheets.{blocks-are, long-of}
-use Rattle.table.proofs.Lookups.{few-blocks}
 use Rattle.states.specs.States.{Unset, Started, Waits}
 use Rattle.states.proofs.Starting.{start-none, start-yes, start-no, waits-none, waits-yes, waits-no, forward-starts, global-starts}
 use borrow.Author.Needs.{needs}
+use Rattle.rules.proofs.Refusals.{in-limits}
 use Rattle.states.proofs.starts.forward_start.Statement.{statement}
 use Rattle.states.proofs.starts.forward_start.Tie as tie
 use Rattle.states.proofs.starts.forward_start.Reads as reads
@@ -50,7 +50,7 @@ loop-again c = (omega arith, λ g u. c .empty-at .ensures g (c .before .before .
 
 -- src/starts.rt:62:1
 returns : tie.Need-returns Inv-loop μ-loop
-returns c = let x = c .before .before .before .before .args in let k = c .before .loop in let e : k .b ≡ blockCount (sheetIn (x .t .now)) = omega (arith, c .before .before .count .ensures, long-of (blocks-are (x .t .now))) in λ g u w z. forward-starts (sheetIn (x .t .now)) (few-blocks (sheetIn (x .t .now)) (g .limits)) (k .states) w (rw e at (k .inv .1 g u)) z
+returns c = let x = c .before .before .before .before .args in let k = c .before .loop in let e : k .b ≡ blockCount (sheetIn (x .t .now)) = omega (arith, c .before .before .count .ensures, long-of (blocks-are (x .t .now))) in λ g u w z. forward-starts (sheetIn (x .t .now)) (in-limits (sheetIn (x .t .now)) (g .limits) .few-blocks) (k .states) w (rw e at (k .inv .1 g u)) z
 
 pub forward-start-spec : {M : Type 1} → statement M
 forward-start-spec =

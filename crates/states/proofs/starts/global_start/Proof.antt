@@ -7,7 +7,6 @@ use Rattle.rules.specs.Forward.{beginsEmpty}
 use Rattle.table.specs.Sheet.{sheetIn}
 use Rattle.table.specs.Index.{Ready}
 use Rattle.table.proofs.Sheets.{blocks-are, long-of}
-use Rattle.table.proofs.Lookups.{few-blocks}
 use Rattle.states.specs.States.{Unset, Started, Waits}
 use Rattle.states.proofs.Starting.{start-none, start-yes, start-no, waits-none, waits-yes, waits-no, forward-starts, global-starts}
 use borrow.Author.Needs.{needs}
@@ -16,6 +15,7 @@ use Rattle.states.proofs.starts.global_start.Tie as tie
 use Rattle.states.proofs.starts.global_start.Reads as reads
 use Rattle.states.proofs.starts.global_start.Lts as lts
 use Rattle.entity.proofs.sets.BlockSet.empty.Reads as empty-reads
+use Rattle.rules.proofs.Refusals.{in-limits}
 use Rattle.states.proofs.starts.entry_at.Reads as entry-at-reads
 use Rattle.table.proofs.rows.count.Reads as count-reads
 
@@ -55,7 +55,7 @@ loop-again c = let k = c .before .before .before .loop in (omega arith, (λ u. c
 
 -- src/starts.rt:86:1
 returns : tie.Need-returns Inv-loop μ-loop
-returns c = let x = c .before .before .before .before .before .args in let k = c .before .loop in let e : k .b ≡ blockCount (sheetIn (x .t .now)) = omega (arith, c .before .before .before .count .ensures, long-of (blocks-are (x .t .now))) in λ g u. global-starts (sheetIn (x .t .now)) (few-blocks (sheetIn (x .t .now)) (g .limits)) (k .states) (k .w .0) (rw e at (k .inv .1 u)) (rw e at (k .inv .2))
+returns c = let x = c .before .before .before .before .before .args in let k = c .before .loop in let e : k .b ≡ blockCount (sheetIn (x .t .now)) = omega (arith, c .before .before .before .count .ensures, long-of (blocks-are (x .t .now))) in λ g u. global-starts (sheetIn (x .t .now)) (in-limits (sheetIn (x .t .now)) (g .limits) .few-blocks) (k .states) (k .w .0) (rw e at (k .inv .1 u)) (rw e at (k .inv .2))
 
 pub global-start-spec : {M : Type 1} → statement M
 global-start-spec =

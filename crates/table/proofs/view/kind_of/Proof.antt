@@ -1,4 +1,5 @@
 use borrow.Author.Tests.{ne-eqb}
+use Rattle.rules.specs.Words.{defWord, defgWord, earlyWord, earlygWord, useWord, usegWord}
 use Rattle.rules.specs.Cells.{word, words, find}
 use Rattle.rules.specs.Sheet.{kindOf}
 use Rattle.table.proofs.view.kind_of.Statement.{statement}
@@ -17,10 +18,10 @@ kind-of-spec = tie.close (tie.spec
     let k = c .before .args .k in
     let x = c .match .rest in
     rw (
-      ne-eqb k 100014 (x .0 .0 .0 .0 .0 .1),
-      ne-eqb k 100015 (x .0 .0 .0 .0 .1),
-      ne-eqb k 100016 (x .0 .0 .0 .1),
-      ne-eqb k 100017 (x .0 .0 .1),
-      ne-eqb k 100018 (x .0 .1),
-      ne-eqb k 100019 (x .1),
+      ne-eqb k defWord (x .0 .0 .0 .0 .0 .1),
+      ne-eqb k useWord (x .0 .0 .0 .0 .1),
+      ne-eqb k earlyWord (x .0 .0 .0 .1),
+      ne-eqb k defgWord (x .0 .0 .1),
+      ne-eqb k usegWord (x .0 .1),
+      ne-eqb k earlygWord (x .1),
     )))

@@ -9,5 +9,7 @@ unfolding placeOf
 place-of-spec = tie.close (tie.spec
     (λ c κs. search needs)
     (λ c κs. search needs)
-    (λ c. rw (lt-ltb _ _ (c .before .if1 .taken), c .less .ensures))
-    (λ c. rw (le-ltb _ _ (c .before .if1 .left), c .less2 .ensures)))
+    (λ c κs. search needs)
+    (λ c κs. search needs)
+    (λ c. rw (lt-ltb _ _ (c .before .before .if1 .taken), c .reg .ensures, c .before .less .ensures))
+    (λ c. rw (le-ltb _ _ (c .before .before .if1 .left), c .slot .ensures, c .before .less2 .ensures)))

@@ -1,4 +1,5 @@
--- The folds of an instruction's rows, one after the other, and the instruction as a whole. Assumes nothing.
+-- `fold_all`, `define_early` and `optimise_inst` of src/lib.rt: the folds of an instruction's rows, one after the other, and the instruction as a
+-- whole (the rule `optimiseInst`). Assumes nothing.
 use mathlib.Core.Path.{_≡_, refl, sym, ap, _∙_}
 use mathlib.Core.Bool.{Bool, true, false, not, _||_}
 use mathlib.Core.List.{List, [], _∷_, _++_, map, flatMap}
@@ -9,30 +10,30 @@ use borrow.Author.Tests.{ltb-true, ne-eqb, not-true}
 use Rattle.laws.specs.Fold.{run}
 use Rattle.laws.specs.Lists.{all, any, keep, from}
 use Rattle.laws.proofs.Cases.{by-bool, by-lt}
-use Rattle.laws.proofs.Words.{has-out, of-words}
-use Rattle.bits.specs.Sets.{has, setOf}
+use Rattle.bits.specs.Sets.{has, setLimit}
 use Rattle.bits.specs.declared.sets.NumberSet.{NumberSet}
-use Rattle.bits.proofs.Members.{has-setOf}
-use Rattle.entity.specs.Limits.{instLimit, operandLimit}
-use Rattle.entity.specs.declared.record.Record.{Record}
+use Rattle.bits.proofs.Members.{has-setOf, has-past}
+use Rattle.entity.specs.Limits.{instLimit, operandLimit, reuseLimit}
 use Rattle.entity.specs.declared.forms.Constraint.{Constraint}
 use Rattle.entity.specs.declared.forms.Constraint.the-variants.{Class, Fixed, Reuse}
-use Rattle.rules.specs.Sheet.{Sheet, OpRow, is}
+use Rattle.rules.specs.Sheet.{Sheet, OpRow, isEarly}
 use Rattle.rules.specs.Accept.{reuseWithin, operandsAt}
-use Rattle.rules.specs.Forward.{Walk, withRec, definesAs, earlyDefs, defineAll, reused, indexed, fold}
+use Rattle.rules.specs.Record.{Record}
+use Rattle.rules.specs.Forward.{Walk, earlyDefs, defineAll, reused, indexed, fold}
+use Rattle.rules.proofs.Refusals.{in-limits}
+use Rattle.table.specs.Layout.{opIndex}
 use Rattle.table.specs.Sheet.{sheetIn}
 use Rattle.table.specs.Index.{Ready, rangeIn}
 use Rattle.table.specs.View.{opRow}
 use Rattle.table.specs.declared.index.Range.{Range}
 use Rattle.table.proofs.Loops.{and-left, and-right}
-use Rattle.record.specs.Flat.{recordIn, Long, Becomes}
-use Rattle.record.proofs.Changes.{long-after}
+use Rattle.record.specs.Flat.{recordIn, Becomes}
 use Rattle.holders.specs.Holders.{Filled}
 use Rattle.moves.specs.Walks.{Walked}
-use Rattle.moves.proofs.Moving.{walked-less}
+use Rattle.moves.proofs.Walks.{walked-fewer}
 use Rattle.folding.specs.declared.Told.{Told}
-use Rattle.folding.specs.Folds.{reuses, early, mayFold, told, opsIn}
-use Rattle.folding.proofs.Rows.{small-reuses, operands-are, indexed-are, row-at, few-rows}
+use Rattle.folding.specs.Folds.{reuses, mayFold, told, opsIn}
+use Rattle.folding.proofs.Rows.{operands-are, indexed-are, row-at, few-rows}
 use Rattle.folding.proofs.Telling.{map-more}
 use Rattle.folding.proofs.Folding.{other-stays, fold-stays}
 
@@ -59,27 +60,24 @@ unfolding all any
 any-not p f [] h e = refl
 any-not p f (x ∷ l) h e = rw (h x (and-left (p x) (all p l) e), any-not p f l h (and-right (p x) (all p l) e))
 
-reuse-small : (c : Constraint) (k : ℕ) → 256 ≤ k → reuseWithin c ≡ true → reuses k c ≡ false
+reuse-small : (c : Constraint) (k : ℕ) → setLimit ≤ k → reuseWithin c ≡ true → reuses k c ≡ false
 unfolding reuseWithin
 reuse-small (Class x) k h e = refl
 reuse-small (Fixed x) k h e = refl
-reuse-small (Reuse x) k h e = ne-eqb (x .0) k (λ q. omega (arith, ltb-true (x .0) 128 e))
+reuse-small (Reuse x) k h e = ne-eqb (x .0) k (λ q. omega (arith, ltb-true (x .0) reuseLimit e))
 
-has-past : (f : ℕ → Bool) (k : ℕ) → 256 ≤ k → has (setOf f) k ≡ false
-has-past f k h = has-out 4 _ (of-words 4 f) k (omega arith)
-
-module _ {t : List ℕ} (g : Ready t) (i : ℕ) {r : Range} (e : r ≡ rangeIn t 54952 instLimit i) where
+module _ {t : List ℕ} (g : Ready t) (i : ℕ) {r : Range} (e : r ≡ rangeIn t opIndex instLimit i) where
   ops-here : operandsAt (sheetIn t) i ≡ opsIn (sheetIn t) r
   ops-here = operands-are g i ∙ sym (ap (opsIn (sheetIn t)) e)
 
   indexed-here : indexed (sheetIn t) i ≡ map (λ n. (n - r .from, n, opRow (sheetIn t) n)) (from (r .from) (r .to - r .from))
   indexed-here = indexed-are g i ∙ sym (ap (λ (r : Range). map (λ n. (n - r .from, n, opRow (sheetIn t) n)) (from (r .from) (r .to - r .from))) e)
 
-  none-past : (k : ℕ) → 256 ≤ k → any (λ o. reuses k (o .constraint)) (operandsAt (sheetIn t) i) ≡ false
+  none-past : (k : ℕ) → setLimit ≤ k → any (λ o. reuses k (o .constraint)) (operandsAt (sheetIn t) i) ≡ false
   unfolding operandsAt
   none-past k h =
       any-not (λ (o : OpRow). reuseWithin (o .constraint)) (λ (o : OpRow). reuses k (o .constraint)) (keep (λ o. eqb (o .at) i) (sheetIn t .ops)) (λ o q. reuse-small (o .constraint) k h q)
-      (all-keep (λ (o : OpRow). reuseWithin (o .constraint)) (λ o. eqb (o .at) i) (sheetIn t .ops) (small-reuses (sheetIn t) (g .limits)))
+      (all-keep (λ (o : OpRow). reuseWithin (o .constraint)) (λ o. eqb (o .at) i) (sheetIn t .ops) (in-limits (sheetIn t) (g .limits) .small-reuses))
 
   -- what is told of reuses holds of every index
   tied-is : (n : ℕ) → r .from ≤ n → n < r .to → (k : ℕ) → has (told (sheetIn t) (opsIn (sheetIn t) r) .reused) k ≡ reused (sheetIn t) (opRow (sheetIn t) n .at) k
@@ -88,7 +86,7 @@ module _ {t : List ℕ} (g : Ready t) (i : ℕ) {r : Range} (e : r ≡ rangeIn t
       let sh : Sheet = sheetIn t in
       let z : opRow sh n .at ≡ i = row-at g i n (rw e at a) (rw e at b) in
       rw (z, ops-here)
-      (by-lt k 256
+      (by-lt k setLimit
       (λ h. has-setOf (λ k. any (λ o. reuses k (o .constraint)) (opsIn sh r)) k h)
       (λ h.
       has-past (λ k. any (λ o. reuses k (o .constraint)) (opsIn sh r)) k h
@@ -120,7 +118,7 @@ rows-next t w a n h =
 
 abbrev pub Passed : List ℕ → List ℕ → List ℕ → List ℕ → List ℕ → List ℕ → List ℕ → NumberSet → Range → ℕ → Type 0
 Passed t rec classes places counts places′ counts′ ties r n =
-    Ready t → Filled (sheetIn t) classes → (i : ℕ) → r ≡ rangeIn t 54952 instLimit i → ties ≡ told (sheetIn t) (opsIn (sheetIn t) r) .reused → (edits : List ℕ) (m b : ℕ) (w : Walk)
+    Ready t → Filled (sheetIn t) classes → (i : ℕ) → r ≡ rangeIn t opIndex instLimit i → ties ≡ told (sheetIn t) (opsIn (sheetIn t) r) .reused → (edits : List ℕ) (m b : ℕ) (w : Walk)
     → m + (n - r .from) ≡ b → Walked t rec edits places counts b w → Walked t rec edits places′ counts′ m (after-rows t w (r .from) n)
 
 pub rows-none : (t rec classes places counts : List ℕ) (ties : NumberSet) (r : Range) → Passed t rec classes places counts places counts ties r (r .from)
@@ -139,14 +137,14 @@ module _ {t rec classes places counts places₁ counts₁ : List ℕ} {ties : Nu
       rw (rows-next t w (r .from) n h)
       (q g f edits m (n - r .from) (after-rows t w (r .from) n) (b ∙ rw (s, a) (tied-is g i e n h l (n - r .from))) (p g f i e s edits (m + 1) c w (omega arith) x))
 
-  pub rows-end : r .from ≤ n → n - r .from ≤ r .to - r .from → r .to ≤ n → Ready t → Filled (sheetIn t) classes → (i : ℕ) → r ≡ rangeIn t 54952 instLimit i
-      → (x : Told) → ties ≡ x .reused → x ≡ told (sheetIn t) (opsIn (sheetIn t) r) → (edits : List ℕ) (m : ℕ) (w : Walk) → Walked t rec edits places counts (m + 2048) w
+  pub rows-end : r .from ≤ n → n - r .from ≤ r .to - r .from → r .to ≤ n → Ready t → Filled (sheetIn t) classes → (i : ℕ) → r ≡ rangeIn t opIndex instLimit i
+      → (x : Told) → ties ≡ x .reused → x ≡ told (sheetIn t) (opsIn (sheetIn t) r) → (edits : List ℕ) (m : ℕ) (w : Walk) → Walked t rec edits places counts (m + operandLimit) w
       → Walked t rec edits places₁ counts₁ m (run (fold (sheetIn t)) w (indexed (sheetIn t) i))
   rows-end h u l g f i e x s q edits m w y =
       let z : n - r .from ≡ r .to - r .from = omega arith in
       let few = rows-few g i e in
       rw (indexed-here g i e, ← z)
-      (walked-less m (m + 2048 - (n - r .from)) (omega arith) (p g f i e (s ∙ ap (λ (x : Told). x .reused) q) edits (m + 2048 - (n - r .from)) (m + 2048) w (omega arith) y))
+      (walked-fewer m (omega arith) (p g f i e (s ∙ ap (λ (x : Told). x .reused) q) edits (m + operandLimit - (n - r .from)) (m + operandLimit) w (omega arith) y))
 
 -- no row may be folded
 stays-on : (t : List ℕ) (a : ℕ) (w : Walk) (ns : List ℕ) → any (mayFold (sheetIn t)) (map (opRow (sheetIn t)) ns) ≡ false → run (fold (sheetIn t)) w (map (row t a) ns) ≡ w
@@ -159,56 +157,31 @@ stays-on t a w (n ∷ ns) e =
     (fold-stays sh w (n - a) n o (other-stays sh o (n - a) (w .rec) (or-left-false (mayFold sh o) (any (mayFold sh) (map (opRow sh) ns)) e)))
     ∙ stays-on t a w ns (or-right-false (mayFold sh o) (any (mayFold sh) (map (opRow sh) ns)) e)
 
-pub rows-stay : {t rec places counts : List ℕ} (classes : List ℕ) {r : Range} {x : Told} → not (x .folds) ≡ true → Ready t → Filled (sheetIn t) classes → (i : ℕ) → r ≡ rangeIn t 54952 instLimit i
-    → x ≡ told (sheetIn t) (opsIn (sheetIn t) r) → (edits : List ℕ) (m : ℕ) (w : Walk) → Walked t rec edits places counts (m + 2048) w
+pub rows-stay : {t rec places counts : List ℕ} (classes : List ℕ) {r : Range} {x : Told} → not (x .folds) ≡ true → Ready t → Filled (sheetIn t) classes → (i : ℕ) → r ≡ rangeIn t opIndex instLimit i
+    → x ≡ told (sheetIn t) (opsIn (sheetIn t) r) → (edits : List ℕ) (m : ℕ) (w : Walk) → Walked t rec edits places counts (m + operandLimit) w
     → Walked t rec edits places counts m (run (fold (sheetIn t)) w (indexed (sheetIn t) i))
 unfolding told
 rows-stay {t} classes {r} {x} h g f i e q edits m w y =
     let z : any (mayFold (sheetIn t)) (opsIn (sheetIn t) r) ≡ false = sym (ap (λ (x : Told). x .folds) q) ∙ not-true _ h in
-    rw (indexed-here g i e, stays-on t (r .from) w (from (r .from) (r .to - r .from)) z) (walked-less m (m + 2048) (omega arith) y)
+    rw (indexed-here g i e, stays-on t (r .from) w (from (r .from) (r .to - r .from)) z) (walked-fewer m (omega arith) y)
 
 -- ---- definitions before and after
 
 -- no operand is an early definition
-none-early : (sh : Sheet) (os : List OpRow) → any (λ o. early (o .kind)) os ≡ false → flatMap (earlyDefs sh) os ≡ []
-unfolding any early flatMap definesAs
+none-early : (sh : Sheet) (os : List OpRow) → any (λ o. isEarly (o .kind)) os ≡ false → flatMap (earlyDefs sh) os ≡ []
+unfolding any flatMap
 none-early sh [] e = refl
 none-early sh (o ∷ os) e =
-    let h = or-left-false (is "early" (o .kind) || is "earlyg" (o .kind)) (any (λ o. early (o .kind)) os) e in
-    rw (
-      or-left-false (is "early" (o .kind)) (is "earlyg" (o .kind)) h,
-      or-right-false (is "early" (o .kind)) (is "earlyg" (o .kind)) h,
-      none-early sh os (or-right-false (is "early" (o .kind) || is "earlyg" (o .kind)) (any (λ o. early (o .kind)) os) e),
-    )
+    let rest : Bool = any (λ o. isEarly (o .kind)) os in
+    rw (or-left-false (isEarly (o .kind)) rest e, none-early sh os (or-right-false (isEarly (o .kind)) rest e))
 
-pub early-none : (sh : Sheet) (b : ℕ) (os : List OpRow) (rec : List ℕ) {x : Bool} → x ≡ false → x ≡ any (λ o. early (o .kind)) os
+pub early-none : (sh : Sheet) (b : ℕ) (os : List OpRow) (rec : List ℕ) {x : Bool} → x ≡ false → x ≡ any (λ o. isEarly (o .kind)) os
     → Becomes rec rec (defineAll sh b (flatMap (earlyDefs sh) os) (recordIn rec))
 unfolding defineAll run
 early-none sh b os rec h e = rw (none-early sh os (sym e ∙ h)) (record { long = refl; is = refl })
 
 -- what is told of early definitions
-pub early-told : {t : List ℕ} → Ready t → (i : ℕ) {r : Range} {x : Told} → r ≡ rangeIn t 54952 instLimit i → x ≡ told (sheetIn t) (opsIn (sheetIn t) r)
-    → x .early ≡ any (λ (o : OpRow). early (o .kind)) (operandsAt (sheetIn t) i)
+pub early-told : {t : List ℕ} → Ready t → (i : ℕ) {r : Range} {x : Told} → r ≡ rangeIn t opIndex instLimit i → x ≡ told (sheetIn t) (opsIn (sheetIn t) r)
+    → x .early ≡ any (λ (o : OpRow). isEarly (o .kind)) (operandsAt (sheetIn t) i)
 unfolding told
-early-told {t} g i {r} e q = ap (λ (x : Told). x .early) q ∙ ap (any (λ (o : OpRow). early (o .kind))) (sym (ops-here g i e))
-
--- the record changed, and nothing else
-pub walked-rec : {t rec rec′ edits places counts : List ℕ} {n : ℕ} {w : Walk} (f : Record → Record) → Walked t rec edits places counts n w
-    → (Long rec → Becomes rec rec′ (f (recordIn rec))) → Walked t rec′ edits places counts n (withRec f w)
-walked-rec f x p =
-    let y = p (x .long) in
-    let c = x .cells in
-    record {
-      long = long-after y (x .long);
-      is-rec = ap f (x .is-rec) ∙ sym (y .is);
-      cells = record {
-        edit-room = c .edit-room;
-        edit-cells = c .edit-cells;
-        is-edits = c .is-edits;
-        place-room = c .place-room;
-        place-cells = c .place-cells;
-        is-places = c .is-places;
-        few = c .few;
-        is-counts = c .is-counts;
-      };
-    }
+early-told {t} g i {r} e q = ap (λ (x : Told). x .early) q ∙ ap (any (λ (o : OpRow). isEarly (o .kind))) (sym (ops-here g i e))

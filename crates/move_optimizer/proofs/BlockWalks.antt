@@ -1,6 +1,7 @@
--- A loop over numbers that has a budget, and what the walks of a block make of the code's tables. Assumes nothing.
+-- A block's walk on the code's tables (`Walked` of moves/specs/Walks.antt): `enter`, `optimise_block` and `prepare_block` of src/levels.rt do what
+-- `entered`, `optimised` and `prepared` say; and the loop over numbers, with a budget, that each walk is (`Passing`). Assumes nothing.
 use mathlib.Core.Path.{_≡_, refl, sym, ap, _∙_}
-use mathlib.Core.List.{List, [], _∷_}
+use mathlib.Core.List.{List, _∷_}
 use Prim.Native.Nat.{ℕ, zero, suc, _+_, _-_, _*_, _≤_, _<_}
 use native.Mathlib.Nat.{mul-add, mul-one, add-assoc}
 use native.Mathlib.Numerals.{add-one}
@@ -11,13 +12,14 @@ use borrow.Author.Tests.{lt-ltb, le-ltb}
 use Rattle.laws.specs.Fold.{run}
 use Rattle.laws.specs.Lists.{from}
 use Rattle.laws.proofs.Cases.{by-lt}
-use Rattle.entity.specs.Limits.{blockLimit, instLimit}
-use Rattle.entity.specs.declared.record.Record.{Record}
+use Rattle.entity.specs.Limits.{blockLimit, instLimit, editLimit, operandLimit}
 use Rattle.entity.specs.declared.forms.Edit.{Edit}
 use Rattle.entity.specs.declared.forms.Edit.the-variants.{Nothing}
-use Rattle.rules.specs.Sheet.{Sheet, BlockRow, instsOf, totalOf}
-use Rattle.rules.specs.Record.{define, effect}
+use Rattle.rules.specs.Sheet.{Sheet, instsOf}
+use Rattle.rules.specs.Record.{Record, define, effect}
 use Rattle.rules.specs.Forward.{Walk, withRec, editsAt, optimiseEdit, optimiseInst, prepareInst}
+use Rattle.rules.proofs.Refusals.{in-limits}
+use Rattle.table.specs.Layout.{instIndex, paramIndex}
 use Rattle.table.specs.Sheet.{rowsAt, sheetIn}
 use Rattle.table.specs.Index.{before, rangeIn, Ready}
 use Rattle.table.specs.View.{paramRow, paramOf}
@@ -25,11 +27,12 @@ use Rattle.table.specs.declared.index.Range.{Range}
 use Rattle.table.specs.declared.view.Param.{Param}
 use Rattle.table.proofs.Sheets.{params-are, long-of, rows-long}
 use Rattle.table.proofs.Ranges.{before-within}
-use Rattle.table.proofs.Building.{few-insts}
 use Rattle.table.proofs.Lookups.{params-of, insts-are}
+use Rattle.table.proofs.Filling.{total-part}
 use Rattle.record.specs.Flat.{recordIn, Long, Becomes}
 use Rattle.record.proofs.Changes.{becomes-as, long-after}
-use Rattle.moves.specs.Walks.{Written, Walked, entered, optimised, prepared}
+use Rattle.moves.specs.Walks.{Walked, entered, optimised, prepared, blockMost, instMost}
+use Rattle.moves.proofs.Walks.{walked-fewer, walked-with}
 
 -- ---- a loop over the numbers from i to `to`: what remains of it gives the same, and each turn may spend `cost`
 
@@ -93,13 +96,13 @@ module _ (t : List ℕ) (b : ℕ) where
   abbrev pub defines : Record → ℕ → Record
   defines s j = define sh b (paramRow sh j .value) (paramRow sh j .place) s
 
-  param-range : Ready t → (rangeIn t 54872 blockLimit b .from ≤ length (sh .params)) × (rangeIn t 54872 blockLimit b .to ≤ length (sh .params))
+  param-range : Ready t → (rangeIn t paramIndex blockLimit b .from ≤ length (sh .params)) × (rangeIn t paramIndex blockLimit b .to ≤ length (sh .params))
   unfolding rangeIn
   param-range g =
       let m : length (sh .params) ≡ length (rowsAt t 9) = long-of (params-are t) ∙ sym (rows-long t 9) in
       by-lt b blockLimit
       (λ h.
-      let e : 54872 + b + 1 ≡ 54872 + (b + 1) = omega arith in
+      let e : paramIndex + b + 1 ≡ paramIndex + (b + 1) = omega arith in
       rw (lt-ltb b blockLimit h, e, g .built .params b (omega arith), g .built .params (b + 1) (omega arith))
       (omega (arith, before-within b (rowsAt t 9)), omega (arith, before-within (b + 1) (rowsAt t 9))))
       (λ h. rw (le-ltb b blockLimit h) (omega arith, omega arith))
@@ -110,75 +113,30 @@ module _ (t : List ℕ) (b : ℕ) where
     entered-next {p = p} q h d i g l =
         passing-again defines 0 0 n to h (λ m s x. next (λ s. defines s n) l (λ k. becomes-as (d k) (ap (λ (y : Param). define sh b (y .value .0) (y .place) (recordIn rec)) q)) x) (i g l)
 
-    pub entered-end : {r : Range} → r ≡ rangeIn t 54872 blockLimit b → to ≤ n
+    pub entered-end : {r : Range} → r ≡ rangeIn t paramIndex blockLimit b → to ≤ n
         → (Ready t → Long rec₀ → Passing (Became rec₀ rec) defines 0 0 n to (run defines (recordIn rec₀) (from (r .from) (r .to - r .from)))) → Ready t → Long rec₀ → Becomes rec₀ rec (entered sh b (recordIn rec₀))
     unfolding entered
     entered-end {r} q h i g l =
         let k = param-range g in
         becomes-as (passing-end defines 0 0 n to h (i g l))
         (ap (λ (x : Range). run defines (recordIn rec₀) (from (x .from) (x .to - x .from))) q
-        ∙ run-part (λ s p. define sh b (p .value) (p .place) s) _ (sh .params) (rangeIn t 54872 blockLimit b .from) (rangeIn t 54872 blockLimit b .to - rangeIn t 54872 blockLimit b .from) (recordIn rec₀) (omega (arith, k .0, k .1))
+        ∙ run-part (λ s p. define sh b (p .value) (p .place) s) _ (sh .params) (rangeIn t paramIndex blockLimit b .from) (rangeIn t paramIndex blockLimit b .to - rangeIn t paramIndex blockLimit b .from) (recordIn rec₀) (omega (arith, k .0, k .1))
         ∙ ap (run (λ s p. define sh b (p .value) (p .place) s) (recordIn rec₀)) (params-of g b))
-
--- ---- the walk in its tables
-
-module _ {t edits places counts : List ℕ} {w : Walk} where
-  pub written-fewer : {n : ℕ} (m : ℕ) → m ≤ n → Written t edits places counts n w → Written t edits places counts m w
-  written-fewer m h c =
-      record {
-        edit-room = c .edit-room;
-        edit-cells = c .edit-cells;
-        is-edits = c .is-edits;
-        place-room = c .place-room;
-        place-cells = c .place-cells;
-        is-places = c .is-places;
-        few = λ k. omega (arith, c .few k);
-        is-counts = c .is-counts;
-      }
-
-  pub walked-fewer : {rec : List ℕ} {n : ℕ} (m : ℕ) → m ≤ n → Walked t rec edits places counts n w → Walked t rec edits places counts m w
-  walked-fewer m h x = record { long = x .long; is-rec = x .is-rec; cells = written-fewer m h (x .cells) }
-
-  pub walked-with : {rec rec′ : List ℕ} {n : ℕ} (g : Record → Record) → (Long rec → Becomes rec rec′ (g (recordIn rec))) → Walked t rec edits places counts n w
-      → Walked t rec′ edits places counts n (withRec g w)
-  walked-with g p x =
-      let y = p (x .long) in
-      let c = x .cells in
-      record {
-        long = long-after y (x .long);
-        is-rec = ap g (x .is-rec) ∙ sym (y .is);
-        cells = record {
-          edit-room = c .edit-room;
-          edit-cells = c .edit-cells;
-          is-edits = c .is-edits;
-          place-room = c .place-room;
-          place-cells = c .place-cells;
-          is-places = c .is-places;
-          few = c .few;
-          is-counts = c .is-counts;
-        };
-      }
 
 -- ---- the instructions of a block
 
-total-take : (bs : List BlockRow) (k : ℕ) → totalOf (take k bs) ≤ totalOf bs
-unfolding totalOf
-total-take bs zero = omega arith
-total-take [] (suc k) = omega arith
-total-take (b ∷ bs) (suc k) = omega (arith, total-take bs k)
-
-pub insts-few : {t : List ℕ} {r : Range} (b : ℕ) → r ≡ rangeIn t 54632 blockLimit b → Ready t → r .to ≤ instLimit
+pub insts-few : {t : List ℕ} {r : Range} (b : ℕ) → r ≡ rangeIn t instIndex blockLimit b → Ready t → r .to ≤ instLimit
 unfolding rangeIn
 insts-few {t} b q g =
     rw q
     (by-lt b blockLimit
     (λ h.
-    let e : 54632 + b + 1 ≡ 54632 + (b + 1) = omega arith in
-    rw (lt-ltb b blockLimit h, e, g .built .insts (b + 1) (omega arith)) (omega (arith, total-take (sheetIn t .blocks) (b + 1), few-insts (sheetIn t) (g .limits))))
+    let e : instIndex + b + 1 ≡ instIndex + (b + 1) = omega arith in
+    rw (lt-ltb b blockLimit h, e, g .built .insts (b + 1) (omega arith)) (omega (arith, total-part (b + 1) (sheetIn t .blocks), in-limits (sheetIn t) (g .limits) .few-insts)))
     (λ h. rw (le-ltb b blockLimit h) (omega arith)))
 
 module _ {S : Type 0} {t : List ℕ} {r : Range} (b : ℕ) (f : S → ℕ → S) (s : S) where
-  pub run-insts : r ≡ rangeIn t 54632 blockLimit b → Ready t → run f s (from (r .from) (r .to - r .from)) ≡ run f s (instsOf (sheetIn t) b)
+  pub run-insts : r ≡ rangeIn t instIndex blockLimit b → Ready t → run f s (from (r .from) (r .to - r .from)) ≡ run f s (instsOf (sheetIn t) b)
   run-insts q g = ap (λ (x : Range). run f s (from (x .from) (x .to - x .from))) q ∙ ap (run f s) (insts-are g b)
 
 module _ (sh : Sheet) (b : ℕ) where
@@ -190,25 +148,25 @@ module _ (sh : Sheet) (b : ℕ) where
 
 module _ {t rec edits places counts : List ℕ} (b : ℕ) where
   -- before the first instruction
-  pub optimised-start : {r : Range} {rec₀ : List ℕ} → r ≡ rangeIn t 54632 blockLimit b → Ready t → (Ready t → Long rec₀ → Becomes rec₀ rec (entered (sheetIn t) b (recordIn rec₀)))
-      → (n : ℕ) (w : Walk) → Walked t rec₀ edits places counts (n + 1572864) w → Walked t rec edits places counts (n + 3072 * (r .to - r .from)) (withRec (entered (sheetIn t) b) w)
-  optimised-start {r} q g p n w x = walked-fewer (n + 3072 * (r .to - r .from)) (omega (arith, insts-few b q g)) (walked-with (entered (sheetIn t) b) (p g) x)
+  pub optimised-start : {r : Range} {rec₀ : List ℕ} → r ≡ rangeIn t instIndex blockLimit b → Ready t → (Ready t → Long rec₀ → Becomes rec₀ rec (entered (sheetIn t) b (recordIn rec₀)))
+      → (n : ℕ) (w : Walk) → Walked t rec₀ edits places counts (n + blockMost) w → Walked t rec edits places counts (n + instMost * (r .to - r .from)) (withRec (entered (sheetIn t) b) w)
+  optimised-start {r} q g p n w x = walked-fewer (n + instMost * (r .to - r .from)) (omega (arith, insts-few b q g)) (walked-with (entered (sheetIn t) b) (p g) x)
 
   pub optimised-next : {rec₁ edits₁ counts₁ rec₂ places₂ counts₂ : List ℕ} {i to n : ℕ} {e : Walk} → i < to
-      → ((places : List ℕ) (n : ℕ) (w : Walk) → Walked t rec edits places counts (n + 1024) w → Walked t rec₁ edits₁ places counts₁ n (run (optimiseEdit (sheetIn t) b) w (editsAt (sheetIn t) i)))
-      → ((edits : List ℕ) (n : ℕ) (w : Walk) → Walked t rec₁ edits places counts₁ (n + 2048) w → Walked t rec₂ edits places₂ counts₂ n (optimiseInst (sheetIn t) b w i))
-      → Passing (Walked t rec edits places counts) (optimises (sheetIn t) b) 3072 n i to e → Passing (Walked t rec₂ edits₁ places₂ counts₂) (optimises (sheetIn t) b) 3072 n (i + 1) to e
+      → ((places : List ℕ) (n : ℕ) (w : Walk) → Walked t rec edits places counts (n + editLimit) w → Walked t rec₁ edits₁ places counts₁ n (run (optimiseEdit (sheetIn t) b) w (editsAt (sheetIn t) i)))
+      → ((edits : List ℕ) (n : ℕ) (w : Walk) → Walked t rec₁ edits places counts₁ (n + operandLimit) w → Walked t rec₂ edits places₂ counts₂ n (optimiseInst (sheetIn t) b w i))
+      → Passing (Walked t rec edits places counts) (optimises (sheetIn t) b) instMost n i to e → Passing (Walked t rec₂ edits₁ places₂ counts₂) (optimises (sheetIn t) b) instMost n (i + 1) to e
   optimised-next {edits₁ = edits₁} {i = i} {to = to} {n = n} h p q x =
-      passing-again (optimises (sheetIn t) b) 3072 n i to h
-      (λ m s y. q edits₁ m (run (optimiseEdit (sheetIn t) b) s (editsAt (sheetIn t) i)) (p places (m + 2048) s (walked-fewer (m + 2048 + 1024) (omega arith) y))) x
+      passing-again (optimises (sheetIn t) b) instMost n i to h
+      (λ m s y. q edits₁ m (run (optimiseEdit (sheetIn t) b) s (editsAt (sheetIn t) i)) (p places (m + operandLimit) s (walked-fewer (m + operandLimit + editLimit) (omega arith) y))) x
 
-  pub optimised-end : {r : Range} {i n : ℕ} (w : Walk) → r ≡ rangeIn t 54632 blockLimit b → r .to ≤ i → Ready t
-      → Passing (Walked t rec edits places counts) (optimises (sheetIn t) b) 3072 n i (r .to) (run (optimises (sheetIn t) b) (withRec (entered (sheetIn t) b) w) (from (r .from) (r .to - r .from)))
+  pub optimised-end : {r : Range} {i n : ℕ} (w : Walk) → r ≡ rangeIn t instIndex blockLimit b → r .to ≤ i → Ready t
+      → Passing (Walked t rec edits places counts) (optimises (sheetIn t) b) instMost n i (r .to) (run (optimises (sheetIn t) b) (withRec (entered (sheetIn t) b) w) (from (r .from) (r .to - r .from)))
       → Walked t rec edits places counts n (optimised (sheetIn t) b w)
   unfolding optimised
   optimised-end {r} {i} {n} w q h g x =
       rw (← run-insts b (optimises (sheetIn t) b) (withRec (entered (sheetIn t) b) w) q g)
-      (walked-fewer n (omega arith) (passing-end (optimises (sheetIn t) b) 3072 n i (r .to) h x))
+      (walked-fewer n (omega arith) (passing-end (optimises (sheetIn t) b) instMost n i (r .to) h x))
 
 module _ (t : List ℕ) (b : ℕ) (es : List Edit) {rec₀ rec : List ℕ} where
   pub prepared-next : {rec₁ rec₂ : List ℕ} {i to : ℕ} {e : Record} → i < to → Long rec₀
@@ -219,7 +177,7 @@ module _ (t : List ℕ) (b : ℕ) (es : List Edit) {rec₀ rec : List ℕ} where
       passing-again (prepares (sheetIn t) b es) 0 0 i to h
       (λ m s y. next (λ u. prepareInst (sheetIn t) b u i) l q (next (λ u. run (λ x j. effect (sheetIn t) (getD es j Nothing) x) u (editsAt (sheetIn t) i)) l p y)) x
 
-  pub prepared-end : {r : Range} {i : ℕ} {rec′ : List ℕ} → r ≡ rangeIn t 54632 blockLimit b → r .to ≤ i → Ready t → (Ready t → Long rec′ → Becomes rec′ rec₀ (entered (sheetIn t) b (recordIn rec′)))
+  pub prepared-end : {r : Range} {i : ℕ} {rec′ : List ℕ} → r ≡ rangeIn t instIndex blockLimit b → r .to ≤ i → Ready t → (Ready t → Long rec′ → Becomes rec′ rec₀ (entered (sheetIn t) b (recordIn rec′)))
       → (Long rec₀ → Passing (Became rec₀ rec) (prepares (sheetIn t) b es) 0 0 i (r .to) (run (prepares (sheetIn t) b es) (recordIn rec₀) (from (r .from) (r .to - r .from))))
       → Long rec′ → Becomes rec′ rec (prepared (sheetIn t) b es (recordIn rec′))
   unfolding prepared

@@ -1,4 +1,4 @@
--- The units that an operand defines, added to a set. Assumes nothing.
+-- `add_place`, `add_members`, `add_group` and `add_operand` of src/lib.rt: the units that an operand defines, added to a set. Assumes nothing.
 use mathlib.Core.Path.{_≡_, refl, sym, ap, _∙_}
 use mathlib.Core.List.{List, [], _∷_, _++_, flatMap, zipWith, append-nil}
 use Prim.Native.Nat.{ℕ, _+_, _<_}

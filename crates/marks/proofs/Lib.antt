@@ -1,0 +1,4 @@
+pub mod Marking
+mod Row
+mod Big
+mod Again
