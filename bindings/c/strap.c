@@ -10,7 +10,10 @@ int main(int argc, char **argv)
     size_t n = fread(sheet, 1, sizeof sheet, stdin);
     int64_t r = drifthurdle_clean(sheet, n, level, 1, out, sizeof out);
     if (r < 0) {
-        fprintf(stderr, "refused, %d\n", (int)-r);
+        fprintf(stderr, "refusal %d", (int)drifthurdle_number(r));
+        if (drifthurdle_row(r) > 0)
+            fprintf(stderr, " at row %d", (int)drifthurdle_row(r));
+        fprintf(stderr, "\n");
         return 1;
     }
     fwrite(out, 1, (size_t)r, stdout);

@@ -19,7 +19,9 @@ use Rattle.bits.specs.Sets.{has, setOf}
 use Rattle.bits.specs.declared.sets.NumberSet.{NumberSet}
 use Rattle.bits.proofs.Members.{has-setOf, setOf-same}
 use Rattle.rules.specs.Sheet.{Sheet, ListRow, blockCount, succsOf, listAt}
-use Rattle.rules.specs.Accept.{isEntry, blocksFrom0, blockExists, further, reachedIn, eachIn, allReached, Reached, entry, next}
+use Rattle.rules.specs.Accept.{isEntry, blocksFrom0, blockExists, further, reachedIn, isReached, eachBlock, Reached, entry, next}
+use Rattle.entity.specs.declared.sets.FoundBlock.{FoundBlock}
+use Rattle.entity.specs.declared.sets.FoundBlock.the-variants.{Nothing}
 use Rattle.rules.proofs.Refusals.{in-limits, all-named, each-named}
 use Rattle.table.specs.Rows.{countIn}
 use Rattle.table.specs.Sheet.{sheetIn}
@@ -27,8 +29,9 @@ use Rattle.table.specs.Index.{Ready}
 use Rattle.table.proofs.Loops.{and-left, and-right, and-both, never, all-at, all-each, any-hit}
 use Rattle.table.proofs.Beginnings.{from-at}
 use Rattle.table.proofs.Sheets.{blocks-counted}
-use Rattle.accept.specs.Blocks.{reachSet}
-use Rattle.accept.proofs.Blockwise.{blocks-start}
+use Rattle.accept.specs.Blocks.{reachSet, lowestOf}
+use Rattle.accept.proofs.Blockwise.{}
+use Rattle.accept.proofs.Lowest.{lowest-none, lowest-all}
 
 pub or-cases : {C : Type 0} (a b : Bool) → (a || b) ≡ true → (a ≡ true → C) → (b ≡ true → C) → C
 or-cases true b e f g = f refl
@@ -105,16 +108,16 @@ module _ (sh : Sheet) where
   reached-later zero m k e = let z : m + 0 ≡ m = omega arith in rw z e
   reached-later (suc d) m k e = let z : m + suc d ≡ suc (m + d) = omega arith in rw z (reached-more (m + d) k (reached-later d m k e))
 
-  pub each-later : (m : ℕ) → m ≤ n → eachIn sh (R m) ≡ true → allReached sh ≡ true
-  unfolding allReached eachIn
+  pub each-later : (m : ℕ) → m ≤ n → eachBlock sh (λ b. isIn b (R m)) ≡ true → eachBlock sh (isReached sh) ≡ true
+  unfolding eachBlock isReached
   each-later m h e =
       let z : m + (n - m) ≡ n = omega arith in
       all-each (λ b. isIn b (R n)) 0 (blocksFrom0 sh)
       (λ j u. rw z at (reached-later (n - m) m (getD (blocksFrom0 sh) j 0) (all-at (λ b. isIn b (R m)) 0 (blocksFrom0 sh) e j u)))
 
-  pub all-reached : (m : ℕ) → m ≡ n → eachIn sh (R m) ≡ allReached sh
-  unfolding allReached
-  all-reached m e = ap (λ (m : ℕ). eachIn sh (R m)) e
+  pub all-reached : (m : ℕ) → m ≡ n → lowestOf sh (λ b. isIn b (R m)) ≡ lowestOf sh (isReached sh)
+  unfolding isReached
+  all-reached m e = ap (λ (m : ℕ). lowestOf sh (λ b. isIn b (R m))) e
 
   -- the successors' test, over all blocks
   pub succs-any : (m k : ℕ) → any (λ a. isIn a (R m) && isIn k (succsOf sh a)) (from 0 n) ≡ any (λ a. isIn k (succsOf sh a)) (R m)
@@ -177,14 +180,10 @@ module _ {t : List ℕ} (g : Ready t) where
   unfolding reachSet
   reach-has s m b c e q h = rw e (has-setOf (λ k. isIn k (reachedIn sh m)) b (omega (arith, few, blocks-counted t q)))
 
-  pub each-start : (m c : ℕ) → c ≡ countIn t 6 → all (λ b. isIn b (reachedIn sh m)) (from 0 (c - 0)) ≡ eachIn sh (reachedIn sh m)
-  unfolding eachIn
-  each-start m c e = blocks-start t (λ b. isIn b (reachedIn sh m)) c e
+  pub reached-early : (m c : ℕ) → c ≡ countIn t 6 → m ≤ c → {f : FoundBlock} → f ≡ lowestOf sh (λ b. isIn b (reachedIn sh m)) → f ≡ Nothing → Nothing ≡ lowestOf sh (isReached sh)
+  reached-early m c q l e z = sym (lowest-all sh (isReached sh) (each-later sh m (omega (arith, blocks-counted t q)) (lowest-none sh (λ b. isIn b (reachedIn sh m)) (sym e ∙ z))))
 
-  pub reached-early : (m c : ℕ) → c ≡ countIn t 6 → m ≤ c → {r : Bool} → r ≡ eachIn sh (reachedIn sh m) → r ≡ true → true ≡ allReached sh
-  reached-early m c q l e z = sym (each-later sh m (omega (arith, blocks-counted t q)) (sym e ∙ z))
-
-  pub reached-last : (m c : ℕ) → c ≡ countIn t 6 → m ≤ c → c ≤ m → {r : Bool} → r ≡ eachIn sh (reachedIn sh m) → r ≡ allReached sh
+  pub reached-last : (m c : ℕ) → c ≡ countIn t 6 → m ≤ c → c ≤ m → {f : FoundBlock} → f ≡ lowestOf sh (λ b. isIn b (reachedIn sh m)) → f ≡ lowestOf sh (isReached sh)
   reached-last m c q l u e = e ∙ all-reached sh m (omega (arith, blocks-counted t q))
 
   -- the entries up to b
@@ -371,8 +370,8 @@ module _ (sh : Sheet) where
       (in-any (λ a. isIn k (succsOf sh a)) (reachedIn sh (blockCount sh)) a (steps-complete r) (and-right (ltb k (blockCount sh)) (isIn k (succsOf sh a)) y))))
 
   -- ENOUGH
-  pub reached-by-steps : (allReached sh ≡ true) ↔ ((b : ℕ) → b < blockCount sh → Reached sh b)
-  unfolding allReached eachIn
+  pub reached-by-steps : (eachBlock sh (isReached sh) ≡ true) ↔ ((b : ℕ) → b < blockCount sh → Reached sh b)
+  unfolding eachBlock isReached
   reached-by-steps = (
     λ e b h.
         steps-sound (blockCount sh) b (rw (block-at b h) at (all-at (λ b. isIn b (reachedIn sh (blockCount sh))) 0 (blocksFrom0 sh) e b (rw (from-long 0 (blockCount sh)) h))),

@@ -1,7 +1,7 @@
 -- For the loops of all three files of `src/`: loops that return at the first at which a test says so, where the tests are known under a hypothesis.
 -- Assumes nothing.
 use mathlib.Core.Path.{_≡_, sym, _∙_}
-use mathlib.Core.Bool.{Bool, true, false, not}
+use mathlib.Core.Bool.{Bool, true, false, not, _&&_}
 use mathlib.Core.List.{List}
 use Prim.Native.Nat.{ℕ, _+_, _-_, _≤_, _<_}
 use lib.ListN.{length, getD, drop}
@@ -40,3 +40,11 @@ module _ {H : Type 0} (f : ℕ → Bool) (l : List ℕ) (i : ℕ) {d : Bool} (in
 
   pub each-done : length l ≤ i → H → true ≡ d
   each-done h g = sym (all-end-in f 0 l i h) ∙ inv g
+
+-- two tests, one after the other
+module _ {H : Type 0} (a b : Bool) where
+  pub both-stop : {r : Bool} → (H → r ≡ a) → not r ≡ true → H → false ≡ (a && b)
+  both-stop {r} e s g = rw (sym (e g) ∙ not-true r s)
+
+  pub both-go : {r q : Bool} → (H → r ≡ a) → not r ≡ false → (H → q ≡ b) → H → q ≡ (a && b)
+  both-go {r} e s f g = rw (sym (e g) ∙ not-false r s) (f g)

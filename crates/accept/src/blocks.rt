@@ -1,14 +1,18 @@
-// Refusal 4: the block rules. Blocks are below 64, as limits and names hold: sets hold them all.
+// Refusals 4, 9, 10, 11 and 12: the block rules, each over the whole sheet before the next, and the lowest block that breaks one. Blocks are below 64, as
+// limits and names hold: sets hold them all.
 ghost use mathlib.Core.Path.{_≡_};
-ghost use Prim.Native.Nat.{ℕ, _+_};
+ghost use Prim.Native.Nat.{ℕ, _+_, _<_};
 ghost use Rattle.laws.specs.Lists.{all, isIn};
+ghost use Rattle.entity.specs.Limits.{blockLimit};
 ghost use Rattle.rules.specs.Sheet.{succsOf, predsOf};
-ghost use Rattle.rules.specs.Accept.{someEntry, reachedIn, eachIn, allReached, blocksHold, blocksFrom0};
+ghost use Rattle.rules.specs.Accept.{someEntry, filled, namedBack, entryFirst, noCriticalEdge, edgesHold, solePredSmaller, idomSmaller, smallerHold, reachedIn, isReached, rowOf};
+ghost use Rattle.rules.specs.Answer.{firstRefusal, blockChecks};
 ghost use Rattle.table.specs.Sheet.{sheetIn};
 ghost use Rattle.table.specs.Index.{Ready};
 ghost use Rattle.graph.specs.Graph.{chosen};
-ghost use Rattle.accept.specs.Blocks.{solePreds, listsAgreeAt, entryFirstAt, noCriticalEdgeAt, solePredSmallerAt, idomSmallerAt, blockHolds, reachSet, ReachedBySteps};
+ghost use Rattle.accept.specs.Blocks.{asChecked, solePreds, keeps, reachSet, lowestOf, ReachedBySteps};
 use bits::tables::read_u32;
+use entity::forms::Refusal;
 use entity::numbers::Block;
 use entity::sets::BlockSet;
 use entity::sets::FoundBlock;
@@ -20,9 +24,24 @@ use names::lists::is_in;
 use names::lists::with_all;
 use table::rows::Kind;
 use table::rows::count;
+use table::rows::first;
 use table::view::idom;
 use table::view::inst_count;
 use table::view::is_entry;
+
+// What checks say: nothing, or the first refusal.
+pub enum Checked {
+    Accepted,
+    Refused(Refusal),
+}
+
+// The rules that a block keeps or breaks by itself: it has instructions; 9; 10; 11.
+enum Rule {
+    Filled,
+    NamedBack,
+    Edges,
+    Smaller,
+}
 
 fn some_entry(t: &[u32]) -> bool
     ensures { λ r. ⌜ (Ready (now (t .entry)) → r ≡ someEntry (sheetIn (now (t .entry)))) ⌝ }
@@ -53,8 +72,8 @@ fn neighbour_of_each(t: &[u32], d: Direction, b: Block, list: &[u32]) -> bool
 }
 
 // A block's successors list it as a predecessor, and its predecessors as a successor.
-fn lists_agree(t: &[u32], b: Block) -> bool
-    ensures { λ r. ⌜ (Ready (now (t .entry)) → r ≡ listsAgreeAt (sheetIn (now (t .entry))) (b .0)) ⌝ }
+fn named_back(t: &[u32], b: Block) -> bool
+    ensures { λ r. ⌜ (Ready (now (t .entry)) → r ≡ namedBack (sheetIn (now (t .entry))) (b .0)) ⌝ }
 {
     if !neighbour_of_each(t, Direction::Predecessors, b, succs(t, b)) {
         return false;
@@ -63,7 +82,7 @@ fn lists_agree(t: &[u32], b: Block) -> bool
 }
 
 fn entry_first(t: &[u32], b: Block) -> bool
-    ensures { λ r. ⌜ (Ready (now (t .entry)) → r ≡ entryFirstAt (sheetIn (now (t .entry))) (b .0)) ⌝ }
+    ensures { λ r. ⌜ (Ready (now (t .entry)) → r ≡ entryFirst (sheetIn (now (t .entry))) (b .0)) ⌝ }
 {
     if !is_entry(t, b) {
         return true;
@@ -87,7 +106,7 @@ fn sole_preds(t: &[u32], list: &[u32]) -> bool
 
 // Not several successors one of which has several predecessors.
 fn no_critical_edge(t: &[u32], b: Block) -> bool
-    ensures { λ r. ⌜ (Ready (now (t .entry)) → r ≡ noCriticalEdgeAt (sheetIn (now (t .entry))) (b .0)) ⌝ }
+    ensures { λ r. ⌜ (Ready (now (t .entry)) → r ≡ noCriticalEdge (sheetIn (now (t .entry))) (b .0)) ⌝ }
 {
     let list = succs(t, b);
     if list.len() <= 1 {
@@ -96,8 +115,17 @@ fn no_critical_edge(t: &[u32], b: Block) -> bool
     sole_preds(t, list)
 }
 
+fn edges_hold(t: &[u32], b: Block) -> bool
+    ensures { λ r. ⌜ (Ready (now (t .entry)) → r ≡ edgesHold (sheetIn (now (t .entry))) (b .0)) ⌝ }
+{
+    if !entry_first(t, b) {
+        return false;
+    }
+    no_critical_edge(t, b)
+}
+
 fn sole_pred_smaller(t: &[u32], b: Block) -> bool
-    ensures { λ r. ⌜ (Ready (now (t .entry)) → r ≡ solePredSmallerAt (sheetIn (now (t .entry))) (b .0)) ⌝ }
+    ensures { λ r. ⌜ (Ready (now (t .entry)) → r ≡ solePredSmaller (sheetIn (now (t .entry))) (b .0)) ⌝ }
 {
     let list = preds(t, b);
     if list.len() != 1 {
@@ -107,7 +135,7 @@ fn sole_pred_smaller(t: &[u32], b: Block) -> bool
 }
 
 fn idom_smaller(t: &[u32], b: Block) -> bool
-    ensures { λ r. ⌜ (Ready (now (t .entry)) → r ≡ idomSmallerAt (sheetIn (now (t .entry))) (b .0)) ⌝ }
+    ensures { λ r. ⌜ (Ready (now (t .entry)) → r ≡ idomSmaller (sheetIn (now (t .entry))) (b .0)) ⌝ }
 {
     let FoundBlock::At(i) = idom(t, b) else {
         return true;
@@ -115,40 +143,39 @@ fn idom_smaller(t: &[u32], b: Block) -> bool
     i.0 < b.0
 }
 
-// What each block by itself has to keep.
-fn block_holds(t: &[u32], b: Block) -> bool
-    ensures { λ r. ⌜ (Ready (now (t .entry)) → r ≡ blockHolds (sheetIn (now (t .entry))) (b .0)) ⌝ }
+fn smaller_hold(t: &[u32], b: Block) -> bool
+    ensures { λ r. ⌜ (Ready (now (t .entry)) → r ≡ smallerHold (sheetIn (now (t .entry))) (b .0)) ⌝ }
 {
-    if inst_count(t, b) == 0 {
-        return false;
-    }
-    if !lists_agree(t, b) {
-        return false;
-    }
-    if !entry_first(t, b) {
-        return false;
-    }
-    if !no_critical_edge(t, b) {
-        return false;
-    }
     if !sole_pred_smaller(t, b) {
         return false;
     }
     idom_smaller(t, b)
 }
 
-fn each_holds(t: &[u32]) -> bool
-    ensures { λ r. ⌜ (Ready (now (t .entry)) → r ≡ all (blockHolds (sheetIn (now (t .entry)))) (blocksFrom0 (sheetIn (now (t .entry))))) ⌝ }
+fn keeps(t: &[u32], rule: Rule, b: Block) -> bool
+    ensures { λ r. ⌜ (Ready (now (t .entry)) → r ≡ keeps (sheetIn (now (t .entry))) rule (b .0)) ⌝ }
+{
+    match rule {
+        Rule::Filled => 0 < inst_count(t, b),
+        Rule::NamedBack => named_back(t, b),
+        Rule::Edges => edges_hold(t, b),
+        Rule::Smaller => smaller_hold(t, b),
+    }
+}
+
+// The lowest block that breaks the rule.
+fn lowest_breaking(t: &[u32], rule: Rule) -> FoundBlock
+    ensures { λ f. ⌜ (Ready (now (t .entry)) → f ≡ lowestOf (sheetIn (now (t .entry))) (keeps (sheetIn (now (t .entry))) rule)) ⌝ }
 {
     let blocks = count(t, Kind::BLOCK);
     let mut b: u32 = 0;
     while b < blocks {
-        if !block_holds(t, Block(b)) {
-            return false;
+        if !keeps(t, rule, Block(b)) {
+            return FoundBlock::At(Block(b));
         }
         b += 1;
     }
-    true
+    FoundBlock::Nothing
 }
 
 fn entries(t: &[u32]) -> BlockSet
@@ -182,47 +209,75 @@ fn further(t: &[u32], s: BlockSet) -> BlockSet
     BlockSet(all)
 }
 
-fn each_in(t: &[u32], s: BlockSet) -> bool
-    ensures { λ r. ⌜ ((n : ℕ) → s .0 ≡ reachSet (sheetIn (now (t .entry))) n → Ready (now (t .entry)) → r ≡ eachIn (sheetIn (now (t .entry))) (reachedIn (sheetIn (now (t .entry))) n)) ⌝ }
+// The lowest block that is not in s.
+fn lowest_outside(t: &[u32], s: BlockSet) -> FoundBlock
+    ensures { λ f. ⌜ ((n : ℕ) → s .0 ≡ reachSet (sheetIn (now (t .entry))) n → Ready (now (t .entry))
+        → f ≡ lowestOf (sheetIn (now (t .entry))) (λ b. isIn b (reachedIn (sheetIn (now (t .entry))) n))) ⌝ }
 {
     let blocks = count(t, Kind::BLOCK);
     let mut b: u32 = 0;
     while b < blocks {
         if !s.contains(Block(b)) {
-            return false;
+            return FoundBlock::At(Block(b));
         }
         b += 1;
     }
-    true
+    FoundBlock::Nothing
 }
 
-// As many steps from the entries as there are blocks reach each block, or none do.
-fn all_reached(t: &[u32]) -> bool
-    ensures { λ r. ⌜ (Ready (now (t .entry)) → r ≡ allReached (sheetIn (now (t .entry)))) ⌝ }
+// The lowest block that as many steps from the entries as there are blocks do not reach.
+fn lowest_unreached(t: &[u32]) -> FoundBlock
+    ensures { λ f. ⌜ (Ready (now (t .entry)) → f ≡ lowestOf (sheetIn (now (t .entry))) (isReached (sheetIn (now (t .entry))))) ⌝ }
 {
     let blocks = count(t, Kind::BLOCK);
     let mut s = entries(t);
     let mut n: u32 = 0;
     while n < blocks {
-        if each_in(t, s) {
-            return true;
-        }
+        let FoundBlock::At(_) = lowest_outside(t, s) else {
+            return FoundBlock::Nothing;
+        };
         s = further(t, s);
         n += 1;
     }
-    each_in(t, s)
+    lowest_outside(t, s)
 }
 
-pub fn blocks_hold(t: &[u32]) -> bool
-    ensures { λ r. ⌜ (Ready (now (t .entry)) → r ≡ blocksHold (sheetIn (now (t .entry)))) ⌝ }
+// The `block` row of b, counted from 1 over all rows of the sheet.
+fn block_row(t: &[u32], b: Block) -> u16
+    ensures { λ r. ⌜ (Ready (now (t .entry)) → b .0 < blockLimit → r ≡ rowOf (sheetIn (now (t .entry))) (b .0)) ⌝ }
+{
+    let above = first(t, Kind::BLOCK);
+    if above < 65000 {
+        if b.0 < 500 {
+            return (above + b.0 + 1) as u16;
+        }
+    }
+    0
+}
+
+// 4, 9, 10, 11 and 12, in this order.
+pub fn check_blocks(t: &[u32]) -> Checked
+    ensures { λ c. ⌜ (Ready (now (t .entry)) → c ≡ asChecked (firstRefusal (blockChecks (sheetIn (now (t .entry)))))) ⌝ }
 {
     if !some_entry(t) {
-        return false;
+        return Checked::Refused(Refusal::NoEntry);
     }
-    if !each_holds(t) {
-        return false;
+    if let FoundBlock::At(b) = lowest_breaking(t, Rule::Filled) {
+        return Checked::Refused(Refusal::Empty(block_row(t, b)));
     }
-    all_reached(t)
+    if let FoundBlock::At(b) = lowest_breaking(t, Rule::NamedBack) {
+        return Checked::Refused(Refusal::Disagree(block_row(t, b)));
+    }
+    if let FoundBlock::At(b) = lowest_breaking(t, Rule::Edges) {
+        return Checked::Refused(Refusal::Edges(block_row(t, b)));
+    }
+    if let FoundBlock::At(b) = lowest_breaking(t, Rule::Smaller) {
+        return Checked::Refused(Refusal::NotSmaller(block_row(t, b)));
+    }
+    if let FoundBlock::At(b) = lowest_unreached(t) {
+        return Checked::Refused(Refusal::NotReached(block_row(t, b)));
+    }
+    Checked::Accepted
 }
 
 // That many steps are enough: all are reached by them if each is reached by some.

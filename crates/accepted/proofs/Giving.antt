@@ -1,7 +1,7 @@
--- For the theorem `accepted_gives`: each rule of 2 to 6 out of the checks. Assumes nothing.
+-- For the theorem `accepted_gives`: each rule of 2 to 6 and 9 to 12 out of the checks. Assumes nothing.
 use mathlib.Core.Path.{_≡_, refl, sym, _∙_, ap}
 use mathlib.Core.Bool.{Bool, true, false, cond, not, _&&_, _||_, false≢true}
-use mathlib.Core.List.{List, [], _∷_}
+use mathlib.Core.List.{List, [], _∷_, _++_}
 use mathlib.Core.Option.{none, some, Option·elim}
 use Prim.Native.Nat.{ℕ, _+_, _≤_, _<_}
 use native.Mathlib.Omega.{arith}
@@ -12,10 +12,9 @@ use Rattle.laws.specs.Lists.{all, any, isIn, from}
 use Rattle.laws.proofs.Cases.{by-bool, some-ne-none}
 use Rattle.laws.proofs.Lists.{from-long}
 use Rattle.entity.specs.declared.forms.Refusal.{Refusal}
-use Rattle.entity.specs.declared.forms.Refusal.the-variants.{Limits, Names, Blocks, Operands, Edits}
 use Rattle.rules.specs.Sheet.{Sheet, OpRow, blockCount, blockRow, succsOf, predsOf}
-use Rattle.rules.specs.Accept.{withinLimits, namesHold, allNamed, noneTwice, headsApart, blocksHold, isEntry, someEntry, noneEmpty, listsAgree, entriesFirst, noCriticalEdge, solePredsSmaller, idomsSmaller, allReached, operandsHold, constraintHolds, fixedHolds, groupHolds, editsHold, inOrder, placed, paired, editsIn, pairHolds}
-use Rattle.rules.specs.Answer.{firstRefusal, checks}
+use Rattle.rules.specs.Accept.{withinLimits, namesHold, allNamed, noneTwice, headsApart, isEntry, someEntry, filled, namedBack, entryFirst, noCriticalEdge, edgesHold, solePredSmaller, idomSmaller, smallerHold, isReached, eachBlock, operandsHold, constraintHolds, fixedHolds, groupHolds, editsHold, inOrder, placed, paired, editsIn, pairHolds}
+use Rattle.rules.specs.Answer.{firstRefusal, blockCheck, blockChecks, checks}
 use Rattle.rules.proofs.Refusals.{in-limits}
 use Rattle.table.proofs.Loops.{and-left, and-right, all-at}
 use Rattle.table.proofs.Beginnings.{from-at}
@@ -54,103 +53,96 @@ module _ {A : Type 0} (f g : A → Bool) where
 
 -- ---- the checks
 
+-- no check fails: each is kept
+all-kept : (cs : List (Bool × Refusal)) → firstRefusal cs ≡ none → all (λ c. c .0) cs ≡ true
+unfolding firstRefusal all
+all-kept [] e = refl
+all-kept (c ∷ cs) e = by-bool (c .0) (λ p. rw p (all-kept cs (rw p at e))) (λ p. some-ne-none {a = c .1} (rw p) e)
+
 pub record Passed (sh : Sheet) : Type 0 where
   pub limits : withinLimits sh ≡ true
   pub names : namesHold sh ≡ true
-  pub blocks : blocksHold sh ≡ true
+  pub some-entry : someEntry sh ≡ true
+  pub none-empty : eachBlock sh (filled sh) ≡ true
+  pub agree : eachBlock sh (namedBack sh) ≡ true
+  pub edges : eachBlock sh (edgesHold sh) ≡ true
+  pub smaller : eachBlock sh (smallerHold sh) ≡ true
+  pub reached : eachBlock sh (isReached sh) ≡ true
   pub operands : operandsHold sh ≡ true
   pub edits : editsHold sh ≡ true
 
 pub passed : (sh : Sheet) → firstRefusal (checks sh) ≡ none → Passed sh
-unfolding firstRefusal checks
+unfolding checks blockChecks blockCheck all
 passed sh e =
-    by-bool (withinLimits sh)
-    (λ a. by-bool (namesHold sh)
-    (λ b. by-bool (blocksHold sh)
-    (λ c. by-bool (operandsHold sh)
-    (λ d. by-bool (editsHold sh) (λ f. record { limits = a; names = b; blocks = c; operands = d; edits = f })
-    (λ f. some-ne-none {a = Edits} (rw (a, b, c, d, f)) e))
-    (λ d. some-ne-none {a = Operands} (rw (a, b, c, d)) e))
-    (λ c. some-ne-none {a = Blocks} (rw (a, b, c)) e))
-    (λ b. some-ne-none {a = Names} (rw (a, b)) e))
-    (λ a. some-ne-none {a = Limits} (rw a) e)
-
--- ---- 4, rule by rule
-
-record Rules (sh : Sheet) : Type 0 where
-  some-entry : someEntry sh ≡ true
-  none-empty : noneEmpty sh ≡ true
-  agree : listsAgree sh ≡ true
-  entries : entriesFirst sh ≡ true
-  edges : noCriticalEdge sh ≡ true
-  sole : solePredsSmaller sh ≡ true
-  idoms : idomsSmaller sh ≡ true
-  reached : allReached sh ≡ true
-
-rules : (sh : Sheet) → blocksHold sh ≡ true → Rules sh
-unfolding blocksHold
-rules sh e =
-    let e₇ = and-left (someEntry sh && noneEmpty sh && listsAgree sh && entriesFirst sh && noCriticalEdge sh && solePredsSmaller sh && idomsSmaller sh) (allReached sh) e in
-    let e₆ = and-left (someEntry sh && noneEmpty sh && listsAgree sh && entriesFirst sh && noCriticalEdge sh && solePredsSmaller sh) (idomsSmaller sh) e₇ in
-    let e₅ = and-left (someEntry sh && noneEmpty sh && listsAgree sh && entriesFirst sh && noCriticalEdge sh) (solePredsSmaller sh) e₆ in
-    let e₄ = and-left (someEntry sh && noneEmpty sh && listsAgree sh && entriesFirst sh) (noCriticalEdge sh) e₅ in
-    let e₃ = and-left (someEntry sh && noneEmpty sh && listsAgree sh) (entriesFirst sh) e₄ in
-    let e₂ = and-left (someEntry sh && noneEmpty sh) (listsAgree sh) e₃ in
+    let e₀ = all-kept (checks sh) e in
+    let e₁ = and-right (withinLimits sh) _ e₀ in
+    let e₂ = and-right (namesHold sh) _ e₁ in
+    let e₃ = and-right (someEntry sh) _ e₂ in
+    let e₄ = and-right (eachBlock sh (filled sh)) _ e₃ in
+    let e₅ = and-right (eachBlock sh (namedBack sh)) _ e₄ in
+    let e₆ = and-right (eachBlock sh (edgesHold sh)) _ e₅ in
+    let e₇ = and-right (eachBlock sh (smallerHold sh)) _ e₆ in
+    let e₈ = and-right (eachBlock sh (isReached sh)) _ e₇ in
+    let e₉ = and-right (operandsHold sh) _ e₈ in
     record {
-      some-entry = and-left (someEntry sh) (noneEmpty sh) e₂;
-      none-empty = and-right (someEntry sh) (noneEmpty sh) e₂;
-      agree = and-right (someEntry sh && noneEmpty sh) (listsAgree sh) e₃;
-      entries = and-right (someEntry sh && noneEmpty sh && listsAgree sh) (entriesFirst sh) e₄;
-      edges = and-right (someEntry sh && noneEmpty sh && listsAgree sh && entriesFirst sh) (noCriticalEdge sh) e₅;
-      sole = and-right (someEntry sh && noneEmpty sh && listsAgree sh && entriesFirst sh && noCriticalEdge sh) (solePredsSmaller sh) e₆;
-      idoms = and-right (someEntry sh && noneEmpty sh && listsAgree sh && entriesFirst sh && noCriticalEdge sh && solePredsSmaller sh) (idomsSmaller sh) e₇;
-      reached = and-right (someEntry sh && noneEmpty sh && listsAgree sh && entriesFirst sh && noCriticalEdge sh && solePredsSmaller sh && idomsSmaller sh) (allReached sh) e;
+      limits = and-left (withinLimits sh) _ e₀;
+      names = and-left (namesHold sh) _ e₁;
+      some-entry = and-left (someEntry sh) _ e₂;
+      none-empty = and-left (eachBlock sh (filled sh)) _ e₃;
+      agree = and-left (eachBlock sh (namedBack sh)) _ e₄;
+      edges = and-left (eachBlock sh (edgesHold sh)) _ e₅;
+      smaller = and-left (eachBlock sh (smallerHold sh)) _ e₆;
+      reached = and-left (eachBlock sh (isReached sh)) _ e₇;
+      operands = and-left (operandsHold sh) _ e₈;
+      edits = and-left (editsHold sh) _ e₉;
     }
 
-pub lists-agree : (sh : Sheet) → firstRefusal (checks sh) ≡ none → listsAgree sh ≡ true
-lists-agree sh e = rules sh (passed sh e .blocks) .agree
+pub lists-agree : (sh : Sheet) → firstRefusal (checks sh) ≡ none → eachBlock sh (namedBack sh) ≡ true
+lists-agree sh e = passed sh e .agree
 
-module _ (sh : Sheet) (r : Rules sh) where
+-- ---- 4 and 9 to 12, rule by rule
+
+module _ (sh : Sheet) (r : Passed sh) where
+  at-block : (f : ℕ → Bool) → eachBlock sh f ≡ true → (b : ℕ) → b < blockCount sh → f b ≡ true
+  unfolding eachBlock
+  at-block f e b h = each-number f (blockCount sh) e b h
+
   succ-pred : (a t : ℕ) → a < blockCount sh → isIn t (succsOf sh a) ≡ true → isIn a (predsOf sh t) ≡ true
-  unfolding listsAgree
+  unfolding namedBack
   succ-pred a t h m =
-      let e = and-left (all (λ b. all (λ t. isIn b (predsOf sh t)) (succsOf sh b)) (from 0 (blockCount sh))) (all (λ b. all (λ p. isIn b (succsOf sh p)) (predsOf sh b)) (from 0 (blockCount sh))) (r .agree) in
-      in-all (λ t. isIn a (predsOf sh t)) (succsOf sh a) t (each-number (λ b. all (λ t. isIn b (predsOf sh t)) (succsOf sh b)) (blockCount sh) e a h) m
+      in-all (λ t. isIn a (predsOf sh t)) (succsOf sh a) t (and-left (all (λ t. isIn a (predsOf sh t)) (succsOf sh a)) _ (at-block (namedBack sh) (r .agree) a h)) m
 
   pred-succ : (b p : ℕ) → b < blockCount sh → isIn p (predsOf sh b) ≡ true → isIn b (succsOf sh p) ≡ true
-  unfolding listsAgree
+  unfolding namedBack
   pred-succ b p h m =
-      let e = and-right (all (λ b. all (λ t. isIn b (predsOf sh t)) (succsOf sh b)) (from 0 (blockCount sh))) (all (λ b. all (λ p. isIn b (succsOf sh p)) (predsOf sh b)) (from 0 (blockCount sh))) (r .agree) in
-      in-all (λ p. isIn b (succsOf sh p)) (predsOf sh b) p (each-number (λ b. all (λ p. isIn b (succsOf sh p)) (predsOf sh b)) (blockCount sh) e b h) m
+      in-all (λ p. isIn b (succsOf sh p)) (predsOf sh b) p (and-right (all (λ t. isIn b (predsOf sh t)) (succsOf sh b)) _ (at-block (namedBack sh) (r .agree) b h)) m
 
   not-empty : (b : ℕ) → b < blockCount sh → 0 < blockRow sh b .instructions
-  unfolding noneEmpty
-  not-empty b h =
-      ltb-true 0 (blockRow sh b .instructions)
-      (all-at (λ x. ltb 0 (x .instructions)) (record { instructions = 0; idom = none; entry = false }) (sh .blocks) (r .none-empty) b h)
+  unfolding filled
+  not-empty b h = ltb-true 0 (blockRow sh b .instructions) (at-block (filled sh) (r .none-empty) b h)
 
   entry-first : (b : ℕ) → b < blockCount sh → isEntry sh b ≡ true → length (predsOf sh b) ≡ 0
-  unfolding entriesFirst
+  unfolding edgesHold entryFirst
   entry-first b h m =
-      let x = each-number (λ b. not (isEntry sh b) || eqb (length (predsOf sh b)) 0) (blockCount sh) (r .entries) b h in
+      let x = and-left (entryFirst sh b) (noCriticalEdge sh b) (at-block (edgesHold sh) (r .edges) b h) in
       let y : eqb (length (predsOf sh b)) 0 ≡ true = rw m at x in eqb-true _ _ y
 
   sole-pred : (b : ℕ) → b < blockCount sh → length (predsOf sh b) ≡ 1 → getD (predsOf sh b) 0 0 < b
-  unfolding solePredsSmaller
+  unfolding smallerHold solePredSmaller
   sole-pred b h m =
-      let x = each-number (λ b. not (eqb (length (predsOf sh b)) 1) || ltb (getD (predsOf sh b) 0 0) b) (blockCount sh) (r .sole) b h in
+      let x = and-left (solePredSmaller sh b) (idomSmaller sh b) (at-block (smallerHold sh) (r .smaller) b h) in
       let y : ltb (getD (predsOf sh b) 0 0) b ≡ true = rw (eq-eqb (length (predsOf sh b)) 1 m) at x in ltb-true _ _ y
 
   idom-smaller : (b i : ℕ) → b < blockCount sh → blockRow sh b .idom ≡ some i → i < b
-  unfolding idomsSmaller Option·elim
+  unfolding smallerHold idomSmaller Option·elim
   idom-smaller b i h m =
-      let x = each-number (λ b. Option·elim (blockRow sh b .idom) true (λ i. ltb i b)) (blockCount sh) (r .idoms) b h in
+      let x = and-right (solePredSmaller sh b) (idomSmaller sh b) (at-block (smallerHold sh) (r .smaller) b h) in
       let y : ltb i b ≡ true = rw m at x in ltb-true i b y
 
   no-critical-edge : (b t : ℕ) → b < blockCount sh → 1 < length (succsOf sh b) → isIn t (succsOf sh b) ≡ true → length (predsOf sh t) ≤ 1
-  unfolding noCriticalEdge
+  unfolding edgesHold noCriticalEdge
   no-critical-edge b t h l m =
-      let x = each-number (λ b. leb (length (succsOf sh b)) 1 || all (λ t. leb (length (predsOf sh t)) 1) (succsOf sh b)) (blockCount sh) (r .edges) b h in
+      let x = and-right (entryFirst sh b) (noCriticalEdge sh b) (at-block (edgesHold sh) (r .edges) b h) in
       let y : all (λ t. leb (length (predsOf sh t)) 1) (succsOf sh b) ≡ true = rw (lt-leb (length (succsOf sh b)) 1 l) at x in
       leb-true _ _ (in-all (λ t. leb (length (predsOf sh t)) 1) (succsOf sh b) t y m)
 
@@ -161,7 +153,6 @@ unfolding namesHold operandsHold editsHold
 gives sh e =
     let p = passed sh e in
     let w = in-limits sh (p .limits) in
-    let r = rules sh (p .blocks) in
     let named = and-left (allNamed sh && noneTwice sh) (headsApart (sh .groups)) (p .names) in
     let two : OpRow → Bool = λ o. constraintHolds sh o && fixedHolds sh o in
     let both = all-left two (groupHolds sh) (sh .ops) (p .operands) in
@@ -186,15 +177,15 @@ gives sh e =
       named = and-left (allNamed sh) (noneTwice sh) named;
       none-twice = and-right (allNamed sh) (noneTwice sh) named;
       heads-apart = and-right (allNamed sh && noneTwice sh) (headsApart (sh .groups)) (p .names);
-      succ-pred = succ-pred sh r;
-      pred-succ = pred-succ sh r;
-      some-entry = r .some-entry;
-      none-empty = not-empty sh r;
-      entry-first = entry-first sh r;
-      sole-pred = sole-pred sh r;
-      idom = idom-smaller sh r;
-      no-critical-edge = no-critical-edge sh r;
-      reached = reached-by-steps sh .0 (r .reached);
+      succ-pred = succ-pred sh p;
+      pred-succ = pred-succ sh p;
+      some-entry = p .some-entry;
+      none-empty = not-empty sh p;
+      entry-first = entry-first sh p;
+      sole-pred = sole-pred sh p;
+      idom = idom-smaller sh p;
+      no-critical-edge = no-critical-edge sh p;
+      reached = reached-by-steps sh .0 (p .reached);
       constraints = all-left (constraintHolds sh) (fixedHolds sh) (sh .ops) both;
       fixed = all-right (constraintHolds sh) (fixedHolds sh) (sh .ops) both;
       groups = all-right two (groupHolds sh) (sh .ops) (p .operands);

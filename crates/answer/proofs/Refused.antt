@@ -1,39 +1,48 @@
--- For `render_refused` of src/rows.rt: what a program writes of a refusal, 11 bytes. Assumes nothing.
-use mathlib.Core.Path.{_≡_, refl}
-use mathlib.Core.List.{List, _++_, flatMap}
-use Prim.Native.Nat.{ℕ}
+-- For `render_refused` of src/rows.rt: what a program writes of a refusal, 20 bytes at most. Assumes nothing.
+use mathlib.Core.Path.{_≡_, refl, sym, ap}
+use mathlib.Core.List.{List, [], _∷_, _++_}
+use Prim.Native.Nat.{ℕ, zero, suc, _+_, _*_, _/_, _%_, _^_, _≤_, _<_}
+use native.Mathlib.Nat.{div-add-mod', pow-suc}
 use native.Mathlib.Omega.{arith}
-use lib.ListN.{length}
-use Rattle.entity.specs.Forms.{refusalNumber}
+use lib.ListN.{length, length-append}
+use Rattle.laws.proofs.Cases.{by-lt}
+use Rattle.entity.specs.Forms.{sumOf}
 use Rattle.entity.specs.declared.forms.Refusal.{Refusal}
-use Rattle.entity.specs.declared.forms.Refusal.the-variants.{Rows, Limits, Names, Blocks, Operands, Edits, Call, Room}
 use Rattle.rules.specs.Text.{bytes}
-use Rattle.rules.specs.Cells.{digitsIn, digitsOf}
-use Rattle.rules.specs.Rows.{lineOf}
+use Rattle.rules.specs.Cells.{digitsOf}
 use Rattle.rules.specs.Answer.{refused, printed}
 use Rattle.answer.specs.Text.{over, Laid}
 use Rattle.answer.proofs.Laying.{laid-as}
 use Rattle.answer.proofs.Lines.{refused-line}
+use Rattle.answer.proofs.Numbers.{digits-one, digits-more}
 
-pub refused-length : (r : Refusal) → length (printed (refused r)) ≡ 11
-unfolding printed lineOf bytes digitsOf digitsIn flatMap
-refused-length Rows = refl
-refused-length Limits = refl
-refused-length Names = refl
-refused-length Blocks = refl
-refused-length Operands = refl
-refused-length Edits = refl
-refused-length Call = refl
-refused-length Room = refl
+-- a number below 10 ^ k has k digits at most
+one-digit : (n : ℕ) → n < 10 → length (digitsOf n) ≡ 1
+one-digit n h = ap length (sym (digits-one n (48 + n % 10) refl h))
 
-row-is : (r : Refusal) {n : ℕ} → n ≡ refusalNumber r → bytes "refused," ++ (digitsOf n ++ bytes "\r\n") ≡ printed (refused r)
+digits-most : (k n : ℕ) → n < 10 ^ suc k → length (digitsOf n) ≤ suc k
+digits-most zero n h = omega (arith, one-digit n (rw pow-suc at h))
+digits-most (suc k) n h =
+    by-lt n 10 (λ u. omega (arith, one-digit n u))
+    (λ u.
+    let most : n < 10 ^ suc k * 10 = rw pow-suc at h in
+    let e : length (digitsOf (n / 10) ++ ((48 + n % 10) ∷ [])) ≡ length (digitsOf n) = ap length (digits-more n (48 + n % 10) refl u) in
+    omega (arith, e, length-append (digitsOf (n / 10)) ((48 + n % 10) ∷ []), digits-most k (n / 10) (omega (arith, most, div-add-mod' n 10))))
+
+-- the row and its length
+row-is : (r : Refusal) {n : ℕ} → n ≡ sumOf r → bytes "refused," ++ (digitsOf n ++ bytes "\r\n") ≡ printed (refused r)
 unfolding printed
-row-is r e = rw e (refused-line (refusalNumber r))
+row-is r e = rw e (refused-line (sumOf r))
 
-pub row-laid : (r : Refusal) {n : ℕ} {old new : List ℕ} {next : ℕ} → n ≡ refusalNumber r → Laid (bytes "refused," ++ (digitsOf n ++ bytes "\r\n")) old 0 new next
-    → (next ≡ length (printed (refused r))) × (new ≡ over old 0 (printed (refused r)))
-row-laid r {old} {new} {next} e p =
+row-few : (n : ℕ) → n < 4294967296 → length (bytes "refused," ++ (digitsOf n ++ bytes "\r\n")) ≤ 20
+unfolding bytes
+row-few n h =
+    omega (arith, length-append (bytes "refused,") (digitsOf n ++ bytes "\r\n"), length-append (digitsOf n) (bytes "\r\n"), digits-most 9 n (omega arith))
+
+pub row-laid : (r : Refusal) {n : ℕ} {old new : List ℕ} {next : ℕ} → n ≡ sumOf r → n < 4294967296 → Laid (bytes "refused," ++ (digitsOf n ++ bytes "\r\n")) old 0 new next
+    → (next ≡ length (printed (refused r))) × (new ≡ over old 0 (printed (refused r))) × (next ≤ 20)
+row-laid r {n} {old} {new} {next} e h p =
     let q : Laid (printed (refused r)) old 0 new next = laid-as (row-is r e) p in
-    let l : length (printed (refused r)) ≡ 11 = refused-length r in
+    let l : length (printed (refused r)) ≤ 20 = rw (row-is r e) at (row-few n h) in
     let x = q .laid (omega arith) in
-    (omega (arith, x .1), x .0)
+    (omega (arith, x .1), x .0, omega (arith, x .1))

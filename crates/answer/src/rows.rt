@@ -1,6 +1,7 @@
 // The rows of an answer, in document 01's order.
 ghost use mathlib.Core.Path.{_≡_};
 ghost use mathlib.Core.List.{[], _∷_, flatMap};
+ghost use Prim.Native.Nat.{_≤_};
 ghost use lib.ListN.{length};
 ghost use Rattle.laws.specs.Lists.{from};
 ghost use Rattle.rules.specs.Cells.{digitsOf};
@@ -138,11 +139,11 @@ pub fn render(t: &[u32], edits: &[u32], places: &[u32], counts: &[u32], out: &mu
     put_counts(counts, out, b)
 }
 
-// The row `refused,` and the number from the buffer's start, as far as it fits, and how long it is.
+// The row `refused,` and the refusal's sum from the buffer's start, as far as it fits, and how long it is: 20 bytes at most.
 pub fn render_refused(r: Refusal, out: &mut [u8]) -> usize
-    ensures { λ n. ⌜ (n ≡ length (printed (refused r))) × (now (out .exit) ≡ over (now (out .entry)) 0 (printed (refused r))) ⌝ }
+    ensures { λ n. ⌜ (n ≡ length (printed (refused r))) × (now (out .exit) ≡ over (now (out .entry)) 0 (printed (refused r))) × (n ≤ 20) ⌝ }
 {
     let a = put_text(out, 0, b"refused,");
-    let b = put_number(out, a, r.number());
+    let b = put_number(out, a, r.sum());
     put_end(out, b)
 }

@@ -16,7 +16,7 @@ use Rattle.entity.specs.declared.forms.Place.{Place}
 use Rattle.entity.specs.declared.forms.Edit.{Edit}
 use Rattle.entity.specs.declared.forms.Edit.the-variants.{Nothing}
 use Rattle.rules.specs.Sheet.{Sheet, ListRow, blockCount, listAt, succsOf, predsOf, instsOf}
-use Rattle.rules.specs.Accept.{blockExists, listsAgree}
+use Rattle.rules.specs.Accept.{blockExists, namedBack, eachBlock}
 use Rattle.rules.specs.Forward.{editsAt}
 use Rattle.rules.specs.Function.{Op, edit, inst, Func, opsOf, nextOf, Item, row, ins, items, look, instOf, funcOf, In}
 use Rattle.rules.specs.Sweep.{wantedBefore, wantedAt}
@@ -133,19 +133,19 @@ module _ {t edits places counts : List ℕ} (h : Held t edits places counts) whe
   unfolding funcOf
   next-none p l = List·getD-eq-default (map (succsOf sh) (from 0 (blockCount sh))) [] {n = p} (rw (members-long (succsOf sh) (blockCount sh)) l)
 
+  agree-at : (b : ℕ) → b < blockCount sh → namedBack sh b ≡ true
+  unfolding eachBlock
+  agree-at b l = all-true (namedBack sh) (from 0 (blockCount sh)) (h .agree) b (in-from 0 (blockCount sh) b (omega arith) (omega arith))
+
   agree-next : (p b : ℕ) → p < blockCount sh → In b (succsOf sh p) → In p (predsOf sh b)
-  unfolding listsAgree
+  unfolding namedBack
   agree-next p b l m =
-      let a = and-left (all (λ b. all (λ t. isIn b (predsOf sh t)) (succsOf sh b)) (from 0 (blockCount sh))) _ (h .agree) in
-      is-in p (predsOf sh b) .0 (all-true (λ t. isIn p (predsOf sh t)) (succsOf sh p)
-      (all-true (λ b. all (λ t. isIn b (predsOf sh t)) (succsOf sh b)) (from 0 (blockCount sh)) a p (in-from 0 (blockCount sh) p (omega arith) (omega arith))) b m)
+      is-in p (predsOf sh b) .0 (all-true (λ t. isIn p (predsOf sh t)) (succsOf sh p) (and-left (all (λ t. isIn p (predsOf sh t)) (succsOf sh p)) _ (agree-at p l)) b m)
 
   agree-back : (b p : ℕ) → b < blockCount sh → In p (predsOf sh b) → In b (succsOf sh p)
-  unfolding listsAgree
+  unfolding namedBack
   agree-back b p l m =
-      let a = and-right (all (λ b. all (λ t. isIn b (predsOf sh t)) (succsOf sh b)) (from 0 (blockCount sh))) _ (h .agree) in
-      is-in b (succsOf sh p) .0 (all-true (λ p. isIn b (succsOf sh p)) (predsOf sh b)
-      (all-true (λ b. all (λ p. isIn b (succsOf sh p)) (predsOf sh b)) (from 0 (blockCount sh)) a b (in-from 0 (blockCount sh) b (omega arith) (omega arith))) p m)
+      is-in b (succsOf sh p) .0 (all-true (λ p. isIn b (succsOf sh p)) (predsOf sh b) (and-right (all (λ t. isIn b (predsOf sh t)) (succsOf sh b)) _ (agree-at b l)) p m)
 
   pub lows : Lows t edits places
   lows =

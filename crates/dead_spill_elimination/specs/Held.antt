@@ -8,7 +8,7 @@ use Rattle.laws.specs.Fold.{run}
 use Rattle.entity.specs.Limits.{editLimit}
 use Rattle.entity.specs.declared.forms.Place.{Place}
 use Rattle.entity.specs.declared.forms.Edit.{Edit}
-use Rattle.rules.specs.Accept.{listsAgree, inOrder}
+use Rattle.rules.specs.Accept.{namedBack, eachBlock, inOrder}
 use Rattle.rules.specs.Function.{edit, slotOf, funcOf}
 use Rattle.rules.specs.Sweep.{ends, struck, strikeBlocks}
 use Rattle.table.specs.Layout.{editWidth}
@@ -25,11 +25,11 @@ theEdits t edits = editsIn edits (length (sheetIn t .edits))
 abbrev pub thePlaces : List ℕ → List ℕ → List Place
 thePlaces t places = placesIn places (length (sheetIn t .ops))
 
--- refusals 1 to 3 are past and the index is built; of 4 and 6, that predecessors and successors agree, and that edits stand in order; the slots that
+-- refusals 1 to 3 are past and the index is built; of 9 and 6, that predecessors and successors agree, and that edits stand in order; the slots that
 -- edits read and operands have are below the limit; there is room for the edits, and the counts can be counted up
 pub record Held (t edits places counts : List ℕ) : Type 0 where
   pub ready : Ready t
-  pub agree : listsAgree (sheetIn t) ≡ true
+  pub agree : eachBlock (sheetIn t) (namedBack (sheetIn t)) ≡ true
   pub order : inOrder (sheetIn t .edits) ≡ true
   pub low-edits : (j : ℕ) → j < length (sheetIn t .edits) → LowReads (edit (editIn edits j))
   pub low-places : (n : ℕ) → n < length (sheetIn t .ops) → Low (slotOf (placeIn places n))

@@ -1,33 +1,38 @@
 -- For `check`, `read_and_check` and `clean` of src/lib.rt: what the answers of the checks say of the first refusal, and what the call then answers. Assumes nothing.
-use mathlib.Core.Path.{_≡_, refl, sym, _∙_, ap}
+use mathlib.Core.Path.{_≡_, refl, sym, _∙_, ap, subst}
 use mathlib.Core.Bool.{Bool, true, false, cond, not, false≢true}
-use mathlib.Core.List.{List}
+use mathlib.Core.List.{List, [], _∷_, _++_}
 use mathlib.Core.Option.{Option, none, some, bind, Option·elim}
-use Prim.Native.Nat.{ℕ, _≤_, _<_}
+use Prim.Native.Nat.{ℕ, zero, suc, _-_, _≤_, _<_}
 use native.Mathlib.Omega.{arith}
 use lib.Dec.{leb, eqb}
-use lib.IntN.{ℤ, pos, negℤ}
+use lib.IntN.{ℤ, pos, negsuc, negℤ, _-ℤ_}
+use lib.Signed.{mag}
+use mir.Facts.{toZ-pos}
+use mir.Syntax.{w64}
+use mir.Val.{SFits, toZ}
 use lib.ListN.{length}
-use borrow.Author.Tests.{le-leb, lt-leb, leb-true}
+use borrow.Author.Tests.{lt-ltb, le-leb, lt-leb, leb-true}
 use Rattle.laws.proofs.Cases.{by-bool, by-option, some-ne-none}
 use Rattle.entity.specs.Limits.{byteLimit}
-use Rattle.entity.specs.Forms.{levelOf, refusalNumber}
+use Rattle.entity.specs.Forms.{levelOf, sumOf}
 use Rattle.entity.specs.declared.forms.Level.{Level}
 use Rattle.entity.specs.declared.forms.FoundLevel.{FoundLevel}
 use Rattle.entity.specs.declared.forms.FoundLevel.the-variants as Found
 use Rattle.entity.specs.declared.forms.Refusal.{Refusal}
-use Rattle.entity.specs.declared.forms.Refusal.the-variants.{Rows, Limits, Names, Blocks, Operands, Edits, Call, Room}
+use Rattle.entity.specs.declared.forms.Refusal.the-variants.{Rows, Limits, Names, Operands, Edits, Call, Room}
 use Rattle.rules.specs.Rows.{cellsOf, sheetOk, rowsOf}
 use Rattle.rules.specs.Sheet.{Sheet, sheetOf}
-use Rattle.rules.specs.Accept.{withinLimits, namesHold, blocksHold, operandsHold, editsHold}
-use Rattle.rules.specs.Answer.{Answer, refused, written, firstRefusal, checks, checked, called, answer, cleaned, fitted, buffer, returned}
+use Rattle.rules.specs.Accept.{withinLimits, namesHold, operandsHold, editsHold}
+use Rattle.rules.specs.Answer.{Answer, refused, written, firstRefusal, blockChecks, checks, checked, called, answer, cleaned, fitted, buffer, returned}
 use Rattle.table.specs.Table.{Indexed}
 use Rattle.table.specs.Sheet.{sheetIn}
 use Rattle.table.specs.Index.{Built, Ready}
 use Rattle.table.proofs.Sheets.{sheet-in-is}
-use Rattle.drifthurdle.specs.Call.{sheetRefusal, asChecked, TableOf, sheetAnswer, asOutcome, Gives}
-use Rattle.drifthurdle.specs.declared.Checked.{Checked}
-use Rattle.drifthurdle.specs.declared.Checked.the-variants as Checked
+use Rattle.accept.specs.Blocks.{asChecked}
+use Rattle.drifthurdle.specs.Call.{sheetRefusal, TableOf, sheetAnswer, asOutcome, Gives}
+use Rattle.accept.specs.declared.blocks.Checked.{Checked}
+use Rattle.accept.specs.declared.blocks.Checked.the-variants as Checked
 use Rattle.drifthurdle.specs.declared.Outcome.{Outcome}
 use Rattle.drifthurdle.specs.declared.Outcome.the-variants as Outcome
 
@@ -73,35 +78,67 @@ pub rows-pass : (s : List ℕ) (rs : List (List ℕ)) → rowsOf s ≡ some rs �
 unfolding sheetRefusal Option·elim
 rows-pass s rs e = rw e
 
--- ---- 2 to 6
+-- ---- 2 to 6 and 9 to 12
+
+refused-some : {o : Option Refusal} {r : Refusal} → Checked.Refused r ≡ asChecked o → o ≡ some r
+unfolding asChecked
+refused-some {o = none} e = let z : _≡_ {A = ℕ} 0 1 = cc in absurd (omega arith)
+refused-some {o = some q} e = cc
+
+accepted-none : {o : Option Refusal} → Checked.Accepted ≡ asChecked o → o ≡ none
+unfolding asChecked
+accepted-none {o = none} e = refl
+accepted-none {o = some q} e = let z : _≡_ {A = ℕ} 0 1 = cc in absurd (omega arith)
+
+-- some checks, and then others
+module _ (ds : List (Bool × Refusal)) where
+  fails-first : (cs : List (Bool × Refusal)) {r : Refusal} → firstRefusal cs ≡ some r → firstRefusal (cs ++ ds) ≡ some r
+  unfolding firstRefusal
+  fails-first [] e = some-ne-none e refl
+  fails-first (c ∷ cs) e = by-bool (c .0) (λ p. rw p (fails-first cs (rw p at e))) (λ p. rw p (rw p at e))
+
+  passes-first : (cs : List (Bool × Refusal)) → firstRefusal cs ≡ none → firstRefusal (cs ++ ds) ≡ firstRefusal ds
+  unfolding firstRefusal
+  passes-first [] e = refl
+  passes-first (c ∷ cs) e = by-bool (c .0) (λ p. rw p (passes-first cs (rw p at e))) (λ p. some-ne-none {a = c .1} (rw p) e)
 
 module _ (sh : Sheet) where
+  abbrev rest : List (Bool × Refusal)
+  rest = (operandsHold sh, Operands) ∷ (editsHold sh, Edits) ∷ []
+
   pub limits-fail : withinLimits sh ≡ false → Checked.Refused Limits ≡ asChecked (firstRefusal (checks sh))
   unfolding checks firstRefusal asChecked
   limits-fail p = rw p
 
-  names-fail : withinLimits sh ≡ true → namesHold sh ≡ false → Checked.Refused Names ≡ asChecked (firstRefusal (checks sh))
-  unfolding checks firstRefusal asChecked
-  names-fail p q = rw (p, q)
+  module _ (p : withinLimits sh ≡ true) where
+    names-fail : namesHold sh ≡ false → Checked.Refused Names ≡ asChecked (firstRefusal (checks sh))
+    unfolding checks firstRefusal asChecked
+    names-fail q = rw (p, q)
 
-  blocks-fail : withinLimits sh ≡ true → namesHold sh ≡ true → blocksHold sh ≡ false → Checked.Refused Blocks ≡ asChecked (firstRefusal (checks sh))
-  unfolding checks firstRefusal asChecked
-  blocks-fail p q r = rw (p, q, r)
+    module _ (q : namesHold sh ≡ true) where
+      to-blocks : firstRefusal (checks sh) ≡ firstRefusal (blockChecks sh ++ rest)
+      unfolding checks firstRefusal
+      to-blocks = rw (p, q)
 
-  operands-fail : withinLimits sh ≡ true → namesHold sh ≡ true → blocksHold sh ≡ true → operandsHold sh ≡ false
-      → Checked.Refused Operands ≡ asChecked (firstRefusal (checks sh))
-  unfolding checks firstRefusal asChecked
-  operands-fail p q r s = rw (p, q, r, s)
+      blocks-fail : {r : Refusal} → firstRefusal (blockChecks sh) ≡ some r → Checked.Refused r ≡ asChecked (firstRefusal (checks sh))
+      unfolding asChecked
+      blocks-fail e = rw (to-blocks, fails-first rest (blockChecks sh) e)
 
-  edits-fail : withinLimits sh ≡ true → namesHold sh ≡ true → blocksHold sh ≡ true → operandsHold sh ≡ true → editsHold sh ≡ false
-      → Checked.Refused Edits ≡ asChecked (firstRefusal (checks sh))
-  unfolding checks firstRefusal asChecked
-  edits-fail p q r s t = rw (p, q, r, s, t)
+      module _ (r : firstRefusal (blockChecks sh) ≡ none) where
+        to-operands : firstRefusal (checks sh) ≡ firstRefusal rest
+        to-operands = to-blocks ∙ passes-first rest (blockChecks sh) r
 
-  none-fails : withinLimits sh ≡ true → namesHold sh ≡ true → blocksHold sh ≡ true → operandsHold sh ≡ true → editsHold sh ≡ true
-      → Checked.Accepted ≡ asChecked (firstRefusal (checks sh))
-  unfolding checks firstRefusal asChecked
-  none-fails p q r s t = rw (p, q, r, s, t)
+        operands-fail : operandsHold sh ≡ false → Checked.Refused Operands ≡ asChecked (firstRefusal (checks sh))
+        unfolding firstRefusal asChecked
+        operands-fail s = rw (to-operands, s)
+
+        edits-fail : operandsHold sh ≡ true → editsHold sh ≡ false → Checked.Refused Edits ≡ asChecked (firstRefusal (checks sh))
+        unfolding firstRefusal asChecked
+        edits-fail s t = rw (to-operands, s, t)
+
+        none-fails : operandsHold sh ≡ true → editsHold sh ≡ true → Checked.Accepted ≡ asChecked (firstRefusal (checks sh))
+        unfolding firstRefusal asChecked
+        none-fails s t = rw (to-operands, s, t)
 
 module _ {rs : List (List ℕ)} {t : List ℕ} (x : Indexed rs t) {w : Bool} (e : w ≡ withinLimits (sheetIn t)) where
   pub limits-refuse : w ≡ false → Checked.Refused Limits ≡ asChecked (firstRefusal (checks (sheetOf rs)))
@@ -110,7 +147,7 @@ module _ {rs : List (List ℕ)} {t : List ℕ} (x : Indexed rs t) {w : Bool} (e 
   pub limits-pass : w ≡ true → withinLimits (sheetOf rs) ≡ true
   limits-pass f = sym (e ∙ ap withinLimits (sheet-in-is x)) ∙ f
 
--- what the answers of the four checks say, one after the other
+-- what the answers of the four functions say, one after the other
 module _ {rs : List (List ℕ)} {t : List ℕ} (x : Indexed rs t) (ok : sheetOk rs ≡ true) (limits : withinLimits (sheetOf rs) ≡ true) (built : Built t) where
   same : sheetIn t ≡ sheetOf rs
   same = sheet-in-is x
@@ -125,32 +162,35 @@ module _ {rs : List (List ℕ)} {t : List ℕ} (x : Indexed rs t) (ok : sheetOk 
     pub names-refuse : n ≡ false → Checked.Refused Names ≡ asChecked (firstRefusal (checks (sheetOf rs)))
     names-refuse e = names-fail (sheetOf rs) limits (sym names-are ∙ e)
 
-    module _ (n! : n ≡ true) {b : Bool} (B : Ready t → b ≡ blocksHold (sheetIn t)) where
+    module _ (n! : n ≡ true) {b : Checked} (B : Ready t → b ≡ asChecked (firstRefusal (blockChecks (sheetIn t)))) where
       named : namesHold (sheetOf rs) ≡ true
       named = sym names-are ∙ n!
 
-      blocks-are : b ≡ blocksHold (sheetOf rs)
-      blocks-are = B (ready named) ∙ ap blocksHold same
+      blocks-are : b ≡ asChecked (firstRefusal (blockChecks (sheetOf rs)))
+      blocks-are = B (ready named) ∙ ap (λ (sh : Sheet). asChecked (firstRefusal (blockChecks sh))) same
 
-      pub blocks-refuse : b ≡ false → Checked.Refused Blocks ≡ asChecked (firstRefusal (checks (sheetOf rs)))
-      blocks-refuse e = blocks-fail (sheetOf rs) limits named (sym blocks-are ∙ e)
+      pub blocks-refuse : {r : Refusal} → b ≡ Checked.Refused r → Checked.Refused r ≡ asChecked (firstRefusal (checks (sheetOf rs)))
+      blocks-refuse e = blocks-fail (sheetOf rs) limits named (refused-some (sym e ∙ blocks-are))
 
-      module _ (b! : b ≡ true) {o : Bool} (O : Ready t → o ≡ operandsHold (sheetIn t)) where
+      module _ (b! : b ≡ Checked.Accepted) {o : Bool} (O : Ready t → o ≡ operandsHold (sheetIn t)) where
+        passed : firstRefusal (blockChecks (sheetOf rs)) ≡ none
+        passed = accepted-none (sym b! ∙ blocks-are)
+
         operands-are : o ≡ operandsHold (sheetOf rs)
         operands-are = O (ready named) ∙ ap operandsHold same
 
         pub operands-refuse : o ≡ false → Checked.Refused Operands ≡ asChecked (firstRefusal (checks (sheetOf rs)))
-        operands-refuse e = operands-fail (sheetOf rs) limits named (sym blocks-are ∙ b!) (sym operands-are ∙ e)
+        operands-refuse e = operands-fail (sheetOf rs) limits named passed (sym operands-are ∙ e)
 
         module _ (o! : o ≡ true) {d : Bool} (D : Ready t → d ≡ editsHold (sheetIn t)) where
           edits-are : d ≡ editsHold (sheetOf rs)
           edits-are = D (ready named) ∙ ap editsHold same
 
           pub edits-refuse : d ≡ false → Checked.Refused Edits ≡ asChecked (firstRefusal (checks (sheetOf rs)))
-          edits-refuse e = edits-fail (sheetOf rs) limits named (sym blocks-are ∙ b!) (sym operands-are ∙ o!) (sym edits-are ∙ e)
+          edits-refuse e = edits-fail (sheetOf rs) limits named passed (sym operands-are ∙ o!) (sym edits-are ∙ e)
 
           pub all-pass : d ≡ true → Checked.Accepted ≡ asChecked (firstRefusal (checks (sheetOf rs)))
-          all-pass e = none-fails (sheetOf rs) limits named (sym blocks-are ∙ b!) (sym operands-are ∙ o!) (sym edits-are ∙ e)
+          all-pass e = none-fails (sheetOf rs) limits named passed (sym operands-are ∙ o!) (sym edits-are ∙ e)
 
 -- ---- the table, where no check fails
 
@@ -167,17 +207,7 @@ no-limits {rs} x e f n =
 pub tabled : {rs : List (List ℕ)} {t : List ℕ} → Indexed rs t → sheetOk rs ≡ true → withinLimits (sheetOf rs) ≡ true → Built t → firstRefusal (checks (sheetOf rs)) ≡ none → TableOf rs t
 tabled {rs} x ok l b e = record { ready = ready x ok l b (none-named (sheetOf rs) l e); is = sheet-in-is x }
 
--- ---- 1 to 6, and the answer
-
-refused-some : {o : Option Refusal} {r : Refusal} → Checked.Refused r ≡ asChecked o → o ≡ some r
-unfolding asChecked
-refused-some {o = none} e = let z : _≡_ {A = ℕ} 0 1 = cc in absurd (omega arith)
-refused-some {o = some q} e = cc
-
-accepted-none : {o : Option Refusal} → Checked.Accepted ≡ asChecked o → o ≡ none
-unfolding asChecked
-accepted-none {o = none} e = refl
-accepted-none {o = some q} e = let z : _≡_ {A = ℕ} 0 1 = cc in absurd (omega arith)
+-- ---- 1 to 6 and 9 to 12, and the answer
 
 -- a refusal writes nothing
 gives-refused : {a : Answer} {r : Refusal} (out : List ℕ) → a ≡ refused r → Gives a (Outcome.Refused r) out out
@@ -312,6 +342,21 @@ wrote sheet level flag capacity out e =
 
 -- ---- as a number
 
+-- 0 less a number of 32 bits, at 64
+zero-less : (n : ℕ) → pos 0 -ℤ pos n ≡ negℤ (pos n)
+zero-less zero = refl
+zero-less (suc n) = ap (λ (t : Bool). cond t (negsuc (suc n - 1)) (pos (0 - suc n))) (lt-ltb 0 (suc n) (omega arith)) ∙ ap negsuc (omega arith)
+
+pub minus-is : (n : ℕ) → n < 4294967296 → toZ w64 0 -ℤ toZ w64 n ≡ negℤ (pos n)
+minus-is n h = let k : n < 9223372036854775808 = omega arith in ap (λ (z : ℤ). pos 0 -ℤ z) (toZ-pos w64 {n = n} k) ∙ zero-less n
+
+small : (n : ℕ) → n < 4294967296 → mag (negℤ (pos n)) < 9223372036854775808
+small zero h = omega arith
+small (suc n) h = omega arith
+
+pub minus-fits : (n : ℕ) → n < 4294967296 → SFits w64 (toZ w64 0 -ℤ toZ w64 n)
+minus-fits n h = subst (λ (z : ℤ). SFits w64 z) (sym (minus-is n h)) (record { sfits = small n h })
+
 pub outcome-refused : (a : Answer) {r : Refusal} → Outcome.Refused r ≡ asOutcome a → a ≡ refused r
 unfolding asOutcome
 outcome-refused (refused q) {r} e = let z : q ≡ r = cc in rw z
@@ -329,7 +374,7 @@ fits-in sheet level flag capacity e f =
     rw (w .2) (wrote sheet level flag capacity (w .0) (w .1) .fits)
 
 module _ (a : Answer) {o : Outcome} (e : o ≡ asOutcome a) where
-  pub number-refused : {r : Refusal} {z : ℤ} → o ≡ Outcome.Refused r → z ≡ negℤ (pos (refusalNumber r)) → z ≡ returned a
+  pub number-refused : {r : Refusal} {z : ℤ} → o ≡ Outcome.Refused r → z ≡ negℤ (pos (sumOf r)) → z ≡ returned a
   unfolding returned
   number-refused f g = rw (outcome-refused a (sym f ∙ e)) g
 

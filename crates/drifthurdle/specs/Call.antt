@@ -13,19 +13,12 @@ use Rattle.rules.specs.Sheet.{sheetOf}
 use Rattle.rules.specs.Answer.{Answer, refused, written, firstRefusal, checks, checked, buffer}
 use Rattle.table.specs.Sheet.{sheetIn}
 use Rattle.table.specs.Index.{Ready}
-use Rattle.drifthurdle.specs.declared.Checked.{Checked}
-use Rattle.drifthurdle.specs.declared.Checked.the-variants as Checked
 use Rattle.drifthurdle.specs.declared.Outcome.{Outcome}
 use Rattle.drifthurdle.specs.declared.Outcome.the-variants as Outcome
 
--- 1 to 6: "Checks go in the table's order, each over the whole sheet; no number is given otherwise."
+-- 1 to 6 and 9 to 12: "Checks go in the table's order, each over the whole sheet; no number is given otherwise."
 unfoldable pub sheetRefusal : List ℕ → Option Refusal
 sheetRefusal sheet = Option·elim (rowsOf sheet) (some Rows) (λ rows. firstRefusal (checks (sheetOf rows)))
-
--- what the checks say
-unfoldable pub asChecked : Option Refusal → Checked
-asChecked none = Checked.Accepted
-asChecked (some r) = Checked.Refused r
 
 -- the table holds these rows, and its index is built
 pub record TableOf (rs : List (List ℕ)) (t : List ℕ) : Type 0 where

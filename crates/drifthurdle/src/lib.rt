@@ -1,5 +1,5 @@
 // The call for host compilers: a sheet's bytes, level, sweep flag and output buffer. It optimises, then sweeps if the flag is 1, and returns how
-// many bytes it wrote, or minus a refusal number, and then it wrote none. `clean` is the same for callers in Rattle: an enum instead of a number.
+// many bytes it wrote, or minus a refusal's sum of 100 times the row and the number, and then it wrote none. `clean` is the same for callers in Rattle: an enum instead of a number.
 ghost use mathlib.Core.Path.{_≡_};
 ghost use mathlib.Core.Bool.{true};
 ghost use mathlib.Core.List.{List};
@@ -7,7 +7,7 @@ ghost use mathlib.Core.Option.{none, some};
 ghost use Prim.Native.Nat.{ℕ, _*_, _≤_, _<_};
 ghost use lib.IntN.{pos, negℤ};
 ghost use lib.ListN.{length};
-ghost use Rattle.entity.specs.Forms.{refusalNumber};
+ghost use Rattle.entity.specs.Forms.{sumOf};
 ghost use Rattle.rules.specs.Rows.{sheetOk, rowsOf};
 ghost use Rattle.rules.specs.Sheet.{sheetOf};
 ghost use Rattle.rules.specs.Accept.{withinLimits};
@@ -20,10 +20,12 @@ ghost use Rattle.table.specs.Sheet.{sheetIn};
 ghost use Rattle.table.specs.Index.{Built, Ready};
 ghost use Rattle.table.specs.Edits.{editAtRow};
 ghost use Rattle.answer.specs.Rows.{Stands};
-ghost use Rattle.drifthurdle.specs.Call.{sheetRefusal, asChecked, TableOf, sheetAnswer, asOutcome, Gives};
+ghost use Rattle.accept.specs.Blocks.{asChecked};
+ghost use Rattle.drifthurdle.specs.Call.{sheetRefusal, TableOf, sheetAnswer, asOutcome, Gives};
 ghost use Rattle.drifthurdle.specs.Loading.{Storable, EditsLoaded, PlacesLoaded};
 ghost use Rattle.drifthurdle.specs.Theorem.{SweepIsSafeAndExact};
-use accept::blocks::blocks_hold;
+use accept::blocks::Checked;
+use accept::blocks::check_blocks;
 use accept::constraints::operands_hold;
 use accept::edits::edits_hold;
 use answer::rows::COUNTS;
@@ -48,18 +50,12 @@ use table::rows::Kind;
 use table::rows::count;
 use table::rows::row_of;
 
-// What the checks of 2 to 6 say.
-enum Checked {
-    Accepted,
-    Refused(Refusal),
-}
-
 pub enum Outcome {
     Refused(Refusal),
     Written(usize),
 }
 
-// 3 to 6, where 1 and 2 hold and the index is built.
+// 3 to 6 and 9 to 12, where 1 and 2 hold and the index is built.
 fn check_ready(t: &[u32]) -> Checked
     ensures { λ c. ⌜ ((rs : List (List ℕ)) → Indexed rs (now (t .entry)) → sheetOk rs ≡ true → withinLimits (sheetOf rs) ≡ true → Built (now (t .entry))
         → c ≡ asChecked (firstRefusal (checks (sheetOf rs)))) ⌝ }
@@ -67,8 +63,8 @@ fn check_ready(t: &[u32]) -> Checked
     if !names_hold(t) {
         return Checked::Refused(Refusal::Names);
     }
-    if !blocks_hold(t) {
-        return Checked::Refused(Refusal::Blocks);
+    if let Checked::Refused(r) = check_blocks(t) {
+        return Checked::Refused(r);
     }
     if !operands_hold(t) {
         return Checked::Refused(Refusal::Operands);
@@ -79,7 +75,7 @@ fn check_ready(t: &[u32]) -> Checked
     Checked::Accepted
 }
 
-// 2 to 6 in the table's order; the index is built once the limits hold.
+// 2 to 6 and 9 to 12 in the table's order; the index is built once the limits hold.
 fn check(t: &mut [u32]) -> Checked
     ensures { λ c. ⌜ ((rs : List (List ℕ)) → Indexed rs (now (t .entry)) → sheetOk rs ≡ true → tableLength ≤ length (now (t .entry))
         → (c ≡ asChecked (firstRefusal (checks (sheetOf rs)))) × (firstRefusal (checks (sheetOf rs)) ≡ none → TableOf rs (now (t .exit)))) ⌝ }
@@ -91,7 +87,7 @@ fn check(t: &mut [u32]) -> Checked
     check_ready(t)
 }
 
-// 1 to 6: the sheet into the table.
+// 1 to 6 and 9 to 12: the sheet into the table.
 fn read_and_check(sheet: &[u8], t: &mut [u32]) -> Checked
     ensures { λ c. ⌜ (tableLength ≤ length (now (t .entry)) → (c ≡ asChecked (sheetRefusal (now (sheet .entry))))
         × ((rs : List (List ℕ)) → rowsOf (now (sheet .entry)) ≡ some rs → firstRefusal (checks (sheetOf rs)) ≡ none → TableOf rs (now (t .exit)))) ⌝ }
@@ -181,20 +177,11 @@ pub fn clean(sheet: &[u8], level: u32, sweep: u32, out: &mut [u8]) -> Outcome
     read_and_clean(sheet, l, sweep == 1, out)
 }
 
-// Minus the refusal's number.
+// Minus the sum of 100 times the row and the number.
 fn refused(r: Refusal) -> i64
-    ensures { λ z. ⌜ z ≡ negℤ (pos (refusalNumber r)) ⌝ }
+    ensures { λ z. ⌜ z ≡ negℤ (pos (sumOf r)) ⌝ }
 {
-    match r {
-        Refusal::Rows => -1,
-        Refusal::Limits => -2,
-        Refusal::Names => -3,
-        Refusal::Blocks => -4,
-        Refusal::Operands => -5,
-        Refusal::Edits => -6,
-        Refusal::Call => -7,
-        Refusal::Room => -8,
-    }
+    -(r.sum() as i64)
 }
 
 #[no_mangle]

@@ -1,5 +1,5 @@
--- Document 01's numbers for the cases of each enum.
-use Prim.Native.Nat.{ℕ}
+-- Document 01's numbers for the cases of each enum, and document 02's rows of refusals.
+use Prim.Native.Nat.{ℕ, _+_, _*_}
 use lib.Dec.{eqb}
 use Rattle.laws.specs.Choice.{pick}
 use Rattle.entity.specs.declared.forms.Level.{Level}
@@ -7,7 +7,8 @@ use Rattle.entity.specs.declared.forms.Level.the-variants.{Off, Local, F
 use Rattle.entity.specs.declared.forms.FoundLevel.{FoundLevel}
 use Rattle.entity.specs.declared.forms.FoundLevel.the-variants.{At, Nothing}
 use Rattle.entity.specs.declared.forms.Refusal.{Refusal}
-use Rattle.entity.specs.declared.forms.Refusal.the-variants.{Rows, Limits, Names, Blocks, Operands, Edits, Call, Room}
+use Rattle.entity.specs.declared.forms.Refusal.the-variants.{Rows, Limits, Names, NoEntry, Empty, Disagree, Edges, NotSmaller, NotReached, Operands, Edits, Call, Room}
+use Rattle.entity.specs.declared.forms.Told.{Told}
 
 -- "Levels: 0 `Off`, 1 per block (each block starts with nothing known), 2 `Forward`, 3 `Global`."
 abbrev pub levelNumber : Level → ℕ
@@ -24,13 +25,24 @@ levelOf n =
     (pick (eqb n 3) (At Global)
     Nothing)))
 
--- 1 rows, 2 limits, 3 names, 4 blocks, 5 operands, 6 edits, 7 level or sweep flag, 8 output buffer
-abbrev pub refusalNumber : Refusal → ℕ
-refusalNumber Rows = 1
-refusalNumber Limits = 2
-refusalNumber Names = 3
-refusalNumber Blocks = 4
-refusalNumber Operands = 5
-refusalNumber Edits = 6
-refusalNumber Call = 7
-refusalNumber Room = 8
+-- The number and the row of each refusal. 1 rows, 2 limits, 3 names, "4 no entry or empty block; 9 lists disagree; 10 entry with predecessor, or several
+-- successors meeting several predecessors; 11 sole predecessor or idom not smaller; 12 not reached", 5 operands, 6 edits, 7 level or sweep flag, 8 output
+-- buffer. "The row is 0 where no block is concerned and for every other refusal."
+abbrev pub toldOf : Refusal → Told
+toldOf Rows = record { number = 1; row = 0 }
+toldOf Limits = record { number = 2; row = 0 }
+toldOf Names = record { number = 3; row = 0 }
+toldOf NoEntry = record { number = 4; row = 0 }
+toldOf (Empty row) = record { number = 4; row = row }
+toldOf (Disagree row) = record { number = 9; row = row }
+toldOf (Edges row) = record { number = 10; row = row }
+toldOf (NotSmaller row) = record { number = 11; row = row }
+toldOf (NotReached row) = record { number = 12; row = row }
+toldOf Operands = record { number = 5; row = 0 }
+toldOf Edits = record { number = 6; row = 0 }
+toldOf Call = record { number = 7; row = 0 }
+toldOf Room = record { number = 8; row = 0 }
+
+-- "100 times the row plus the number"
+abbrev pub sumOf : Refusal → ℕ
+sumOf r = 100 * toldOf r .row + toldOf r .number

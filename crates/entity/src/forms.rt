@@ -1,7 +1,7 @@
 // The forms of a row's fields as enums: places, constraints, operand kinds, edits; the levels and the refusals of the call.
 // How each is written in a row is left to the crates above.
 ghost use mathlib.Core.Path.{_≡_};
-ghost use Rattle.entity.specs.Forms.{levelOf, levelNumber, refusalNumber};
+ghost use Rattle.entity.specs.Forms.{levelOf, levelNumber, toldOf, sumOf};
 use crate::numbers::OperandIndex;
 use crate::numbers::PhysReg;
 use crate::numbers::RegClass;
@@ -115,30 +115,56 @@ impl Level {
     }
 }
 
+// What is wrong with a sheet or a call. A rule of one block has the `block` row of the lowest block that breaks it, counted from 1 over all rows of the
+// sheet: a sheet of 65,536 bytes has at most 21,845.
 pub enum Refusal {
     Rows,
     Limits,
     Names,
-    Blocks,
+    NoEntry,
+    Empty(u16),
+    Disagree(u16),
+    Edges(u16),
+    NotSmaller(u16),
+    NotReached(u16),
     Operands,
     Edits,
     Call,
     Room,
 }
 
+// A refusal as it is told: its number and the row, 0 where no block is concerned.
+pub struct Told {
+    pub number: u8,
+    pub row: u16,
+}
+
 impl Refusal {
-    pub fn number(self) -> u32
-        ensures { λ n. ⌜ n ≡ refusalNumber self ⌝ }
+    pub fn told(self) -> Told
+        ensures { λ x. ⌜ x ≡ toldOf self ⌝ }
     {
         match self {
-            Refusal::Rows => 1,
-            Refusal::Limits => 2,
-            Refusal::Names => 3,
-            Refusal::Blocks => 4,
-            Refusal::Operands => 5,
-            Refusal::Edits => 6,
-            Refusal::Call => 7,
-            Refusal::Room => 8,
+            Refusal::Rows => Told { number: 1, row: 0 },
+            Refusal::Limits => Told { number: 2, row: 0 },
+            Refusal::Names => Told { number: 3, row: 0 },
+            Refusal::NoEntry => Told { number: 4, row: 0 },
+            Refusal::Empty(row) => Told { number: 4, row },
+            Refusal::Disagree(row) => Told { number: 9, row },
+            Refusal::Edges(row) => Told { number: 10, row },
+            Refusal::NotSmaller(row) => Told { number: 11, row },
+            Refusal::NotReached(row) => Told { number: 12, row },
+            Refusal::Operands => Told { number: 5, row: 0 },
+            Refusal::Edits => Told { number: 6, row: 0 },
+            Refusal::Call => Told { number: 7, row: 0 },
+            Refusal::Room => Told { number: 8, row: 0 },
         }
+    }
+
+    // 100 times the row plus the number.
+    pub fn sum(self) -> u32
+        ensures { λ n. ⌜ n ≡ sumOf self ⌝ }
+    {
+        let told = self.told();
+        100 * told.row as u32 + told.number as u32
     }
 }

@@ -16,7 +16,6 @@ use Rattle.rules.specs.Rows.{rowsOf}
 use Rattle.rules.specs.Answer.{Answer, refused, written, answer, buffer, printed, program, programRoom}
 use Rattle.answer.specs.Text.{over}
 use Rattle.answer.proofs.Laying.{over-fits}
-use Rattle.answer.proofs.Refused.{refused-length}
 use Rattle.drifthurdle.specs.Call.{asOutcome}
 use Rattle.drifthurdle.specs.declared.Outcome.{Outcome}
 use Rattle.drifthurdle.specs.declared.Outcome.the-variants as Outcome
@@ -34,14 +33,14 @@ module _ (input old : List ℕ) {mid : List ℕ} {o : Outcome} (room : length ol
 
   -- the call left the buffer, and the row is laid over it
   pub prints-refused : {r : Refusal} {n : ℕ} {new : List ℕ} → o ≡ Outcome.Refused r
-      → (n ≡ length (printed (refused r))) × (new ≡ over mid 0 (printed (refused r)))
+      → (n ≡ length (printed (refused r))) × (new ≡ over mid 0 (printed (refused r))) × (n ≤ 20)
       → (n ≡ length (program input)) × (new ≡ buffer (written (program input)) old)
   unfolding buffer
   prints-refused {r} {n} {new} f p =
       let q : answer input 1 1 (length old) ≡ refused r = outcome-refused _ (sym f ∙ e) in
       let kept : mid ≡ old = b ∙ ap (λ (a : Answer). buffer a old) q in
       let is : printed (refused r) ≡ program input = program-is _ q in
-      let l : length (printed (refused r)) ≡ 11 = refused-length r in
+      let l : length (printed (refused r)) ≤ 20 = rw (sym (p .0)) (p .2) in
       let laid : new ≡ printed (refused r) ++ drop (length (printed (refused r))) old = p .1 ∙ ap (λ (x : List ℕ). over x 0 (printed (refused r))) kept ∙ over-fits old _ (omega arith) in
       (p .0 ∙ ap length is, laid ∙ ap (λ (t : List ℕ). t ++ drop (length t) old) is)
 

@@ -1,5 +1,5 @@
 // Document 01's small program: a sheet from standard input, level 1 with sweep, the answer into 65,536 bytes and to standard output, or the row
-// `refused,` and the number. The program crates only call `run`.
+// `refused,` and the refusal's sum. The program crates only call `run`.
 // Outside the proof: that `io::read_full` leaves in its buffer the first bytes of standard input, as many as there are or as it holds
 // (`FirstBytes`); that `io::write_all` writes the bytes that it is lent; and that `run` and `write`, of which no contract can say anything, hand on what
 // was read and what is to be written, which the runs of the program crates show. Where a read fails, what was read until then is taken for the

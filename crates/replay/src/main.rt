@@ -83,7 +83,7 @@ fn write_number(n: u32) {
 
 fn write_refused(r: Refusal) {
     io::write_all(1, b"ans -");
-    write_number(r.number());
+    write_number(r.sum());
     io::write_all(1, b" 0\n\n");
 }
 

@@ -11,4 +11,4 @@ worked-sheet = record { gives = refl; program-c1 = (refl, refl); program-empty =
 
 pub readings-hold : Readings
 unfolding computing lines
-readings-hold = refl
+readings-hold = record { gives = refl; returns = refl; prints = (refl, refl) }

@@ -1,10 +1,12 @@
--- Document 01, "The call" and "What is accepted": refusals 2 to 6, a Bool for each rule, true where the sheet keeps it.
+-- Document 01, "The call" and "What is accepted", and document 02, request 1: refusals 2 to 6 and 9 to 12, a Bool for each rule, true where the sheet
+-- keeps it; of a rule of one block, true where the block keeps it, and the lowest that does not.
 use mathlib.Core.Bool.{Bool, true, false, cond, not, _&&_, _||_}
 use mathlib.Core.List.{List, [], _∷_, map}
 use mathlib.Core.Option.{Option, none, some, bind, Option·elim}
 use Prim.Native.Nat.{ℕ, zero, suc, _+_}
 use lib.Dec.{T, eqb, leb, ltb}
 use lib.ListN.{length, getD}
+use Rattle.laws.specs.First.{first}
 use Rattle.laws.specs.Lists.{all, any, keep, isIn, twice, from}
 use Rattle.entity.specs.Limits.{slotLimit, regLimit, unitLimit, classLimit, groupLimit, valueLimit, valueGroupLimit, blockLimit, instLimit, operandLimit, editLimit, reuseLimit}
 use Rattle.entity.specs.declared.forms.Place.{Place}
@@ -139,7 +141,7 @@ headsApart (g ∷ gs) = not (any (headedBy (g .class) (getD (g .regs) 0 0)) gs) 
 unfoldable pub namesHold : Sheet → Bool
 namesHold sh = allNamed sh && noneTwice sh && headsApart (sh .groups)
 
--- ---- 4
+-- ---- 4, 9, 10, 11, 12
 
 module _ (sh : Sheet) where
   abbrev pub blocksFrom0 : List ℕ
@@ -148,35 +150,39 @@ module _ (sh : Sheet) where
   abbrev pub isEntry : ℕ → Bool
   isEntry b = blockRow sh b .entry
 
-  -- "no entry"
+  -- 4: "no entry"
   unfoldable pub someEntry : Bool
   someEntry = any (λ b. b .entry) (sh .blocks)
 
-  -- "a block of no instructions"
-  unfoldable pub noneEmpty : Bool
-  noneEmpty = all (λ b. ltb 0 (b .instructions)) (sh .blocks)
+  -- 4: "empty block"
+  unfoldable pub filled : ℕ → Bool
+  filled b = ltb 0 (blockRow sh b .instructions)
 
-  -- "a predecessor list that disagrees with the successor lists"
-  unfoldable pub listsAgree : Bool
-  listsAgree =
-      all (λ b. all (λ t. isIn b (predsOf sh t)) (succsOf sh b)) blocksFrom0
-      && all (λ b. all (λ p. isIn b (succsOf sh p)) (predsOf sh b)) blocksFrom0
+  -- 9: "lists disagree": "the block naming a neighbour that doesn't name it back"
+  unfoldable pub namedBack : ℕ → Bool
+  namedBack b = all (λ t. isIn b (predsOf sh t)) (succsOf sh b) && all (λ p. isIn b (succsOf sh p)) (predsOf sh b)
 
-  -- "an entry with a predecessor"
-  unfoldable pub entriesFirst : Bool
-  entriesFirst = all (λ b. not (isEntry b) || eqb (length (predsOf sh b)) 0) blocksFrom0
+  -- 10: "entry with predecessor"
+  unfoldable pub entryFirst : ℕ → Bool
+  entryFirst b = not (isEntry b) || eqb (length (predsOf sh b)) 0
 
-  -- "a block with several successors one of which has several predecessors"
-  unfoldable pub noCriticalEdge : Bool
-  noCriticalEdge = all (λ b. leb (length (succsOf sh b)) 1 || all (λ t. leb (length (predsOf sh t)) 1) (succsOf sh b)) blocksFrom0
+  -- "or several successors meeting several predecessors"
+  unfoldable pub noCriticalEdge : ℕ → Bool
+  noCriticalEdge b = leb (length (succsOf sh b)) 1 || all (λ t. leb (length (predsOf sh t)) 1) (succsOf sh b)
 
-  -- "a sole predecessor not smaller than its block"
-  unfoldable pub solePredsSmaller : Bool
-  solePredsSmaller = all (λ b. not (eqb (length (predsOf sh b)) 1) || ltb (getD (predsOf sh b) 0 0) b) blocksFrom0
+  unfoldable pub edgesHold : ℕ → Bool
+  edgesHold b = entryFirst b && noCriticalEdge b
 
-  -- "an idom not smaller than its block"
-  unfoldable pub idomsSmaller : Bool
-  idomsSmaller = all (λ b. Option·elim (blockRow sh b .idom) true (λ i. ltb i b)) blocksFrom0
+  -- 11: "sole predecessor .. not smaller"
+  unfoldable pub solePredSmaller : ℕ → Bool
+  solePredSmaller b = not (eqb (length (predsOf sh b)) 1) || ltb (getD (predsOf sh b) 0 0) b
+
+  -- "or idom not smaller"
+  unfoldable pub idomSmaller : ℕ → Bool
+  idomSmaller b = Option·elim (blockRow sh b .idom) true (λ i. ltb i b)
+
+  unfoldable pub smallerHold : ℕ → Bool
+  smallerHold b = solePredSmaller b && idomSmaller b
 
   -- the blocks, and with them each that is listed as a successor of one of them
   unfoldable pub further : List ℕ → List ℕ
@@ -187,15 +193,21 @@ module _ (sh : Sheet) where
   reachedIn zero = keep isEntry blocksFrom0
   reachedIn (suc n) = further (reachedIn n)
 
-  unfoldable pub eachIn : List ℕ → Bool
-  eachIn bs = all (λ b. isIn b bs) blocksFrom0
+  -- 12: "not reached": as many steps as there are blocks are enough
+  unfoldable pub isReached : ℕ → Bool
+  isReached b = isIn b (reachedIn (blockCount sh))
 
-  -- "a block no entry reaches": as many steps as there are blocks are enough
-  unfoldable pub allReached : Bool
-  allReached = eachIn (reachedIn (blockCount sh))
+  -- a rule of one block, kept by all of them
+  unfoldable pub eachBlock : (ℕ → Bool) → Bool
+  eachBlock keeps = all keeps blocksFrom0
 
-  unfoldable pub blocksHold : Bool
-  blocksHold = someEntry && noneEmpty && listsAgree && entriesFirst && noCriticalEdge && solePredsSmaller && idomsSmaller && allReached
+  -- "the lowest block concerned": the first that does not keep the rule
+  unfoldable pub lowestNot : (ℕ → Bool) → ℕ
+  lowestNot keeps = first (λ b. b) 0 (λ b. not (keeps b)) 0 (blockCount sh)
+
+  -- "the `block` row of the .. block .., counted from 1 over all rows of the sheet"
+  unfoldable pub rowOf : ℕ → ℕ
+  rowOf b = sh .above + b + 1
 
 -- b is an entry, or a listed successor of a block that is reached
 pub data Reached (sh : Sheet) : ℕ → Type 0 where

@@ -1,4 +1,4 @@
--- Document 01, "The call": the answer for every sheet, level, sweep flag and length of the output buffer.
+-- Document 01, "The call", with the finer refusals of document 02, request 1: the answer for every sheet, level, sweep flag and length of the output buffer.
 use mathlib.Core.Bool.{Bool, true, false, cond, not, _&&_, _||_}
 use mathlib.Core.List.{List, [], _∷_, _++_, map, flatMap, zip, zipWith}
 use mathlib.Core.Option.{Option, none, some, Option·elim}
@@ -8,7 +8,7 @@ use lib.ListN.{length, getD, drop}
 use Rattle.laws.specs.Choice.{pick}
 use Rattle.laws.specs.Lists.{keep, from}
 use lib.IntN.{ℤ, pos, negℤ}
-use Rattle.entity.specs.Forms.{levelOf, refusalNumber}
+use Rattle.entity.specs.Forms.{levelOf, sumOf}
 use Rattle.entity.specs.declared.forms.Place.{Place}
 use Rattle.entity.specs.declared.forms.Place.the-variants.{Reg, Slot}
 use Rattle.entity.specs.declared.forms.Edit.{Edit}
@@ -17,12 +17,12 @@ use Rattle.entity.specs.declared.forms.Level.{Level}
 use Rattle.entity.specs.declared.forms.FoundLevel.{FoundLevel}
 use Rattle.entity.specs.declared.forms.FoundLevel.the-variants as Found
 use Rattle.entity.specs.declared.forms.Refusal.{Refusal}
-use Rattle.entity.specs.declared.forms.Refusal.the-variants.{Rows, Limits, Names, Blocks, Operands, Edits, Call, Room}
+use Rattle.entity.specs.declared.forms.Refusal.the-variants.{Rows, Limits, Names, NoEntry, Empty, Disagree, Edges, NotSmaller, NotReached, Operands, Edits, Call, Room}
 use Rattle.rules.specs.Cells.{word, digitsOf, fieldOf, regMark, slotMark}
 use Rattle.rules.specs.Text.{bytes}
 use Rattle.rules.specs.Rows.{rowsOf, lineOf, rowText}
 use Rattle.rules.specs.Sheet.{Sheet, OpRow, EditRow, sheetOf, instCount}
-use Rattle.rules.specs.Accept.{withinLimits, namesHold, blocksHold, operandsHold, editsHold, samePlace}
+use Rattle.rules.specs.Accept.{withinLimits, namesHold, someEntry, filled, namedBack, edgesHold, smallerHold, isReached, eachBlock, lowestNot, rowOf, operandsHold, editsHold, samePlace}
 use Rattle.rules.specs.Forward.{Walk, indexed, optimise, start}
 use Rattle.rules.specs.Sweep.{sweep}
 
@@ -76,9 +76,24 @@ pub data Answer : Type 0 where
 unfoldable pub fitted : List ℕ → ℕ → Answer
 fitted text capacity = elim (leb (length text) capacity) [ true ↦ written text | false ↦ refused Room ]
 
--- "Checks go in the table's order, each over the whole sheet; no number is given otherwise."
+-- a rule of one block, over all of them, and the refusal at the row of the lowest that does not keep it
+unfoldable pub blockCheck : Sheet → (ℕ → Bool) → (ℕ → Refusal) → Bool × Refusal
+blockCheck sh keeps r = (eachBlock sh keeps, r (rowOf sh (lowestNot sh keeps)))
+
+-- "No entry comes before an empty block."
+unfoldable pub blockChecks : Sheet → List (Bool × Refusal)
+blockChecks sh =
+    (someEntry sh, NoEntry)
+    ∷ blockCheck sh (filled sh) Empty
+    ∷ blockCheck sh (namedBack sh) Disagree
+    ∷ blockCheck sh (edgesHold sh) Edges
+    ∷ blockCheck sh (smallerHold sh) NotSmaller
+    ∷ blockCheck sh (isReached sh) NotReached
+    ∷ []
+
+-- "Checks go in the table's order, each over the whole sheet; no number is given otherwise." 4, 9, 10, 11 and 12 come "in that order, where 4 stood".
 unfoldable pub checks : Sheet → List (Bool × Refusal)
-checks sh = (withinLimits sh, Limits) ∷ (namesHold sh, Names) ∷ (blocksHold sh, Blocks) ∷ (operandsHold sh, Operands) ∷ (editsHold sh, Edits) ∷ []
+checks sh = (withinLimits sh, Limits) ∷ (namesHold sh, Names) ∷ (blockChecks sh ++ ((operandsHold sh, Operands) ∷ (editsHold sh, Edits) ∷ []))
 
 -- the first check that fails
 unfoldable pub firstRefusal : List (Bool × Refusal) → Option Refusal
@@ -97,9 +112,9 @@ answer sheet level flag capacity =
     Option·elim (called level flag) (refused Call) (λ c.
     Option·elim (rowsOf sheet) (refused Rows) (λ rows. checked (c .0) (c .1) capacity (sheetOf rows)))
 
--- "It returns how many bytes it wrote, .. or minus a refusal number"
+-- "It returns how many bytes it wrote", or "minus (100 times the row plus the number)"
 unfoldable pub returned : Answer → ℤ
-returned (refused r) = negℤ (pos (refusalNumber r))
+returned (refused r) = negℤ (pos (sumOf r))
 returned (written text) = pos (length text)
 
 -- "later bytes staying", "and then writes none": the output buffer afterwards, where it held `old`
@@ -107,9 +122,9 @@ unfoldable pub buffer : Answer → List ℕ → List ℕ
 buffer (refused r) old = old
 buffer (written text) old = text ++ drop (length text) old
 
--- "A small program does so from standard input, level 1 with sweep, into 65,536 bytes, or writes the row `refused,` and the number."
+-- "A small program does so from standard input, level 1 with sweep, into 65,536 bytes, or writes the row `refused,`" and "that sum".
 unfoldable pub printed : Answer → List ℕ
-printed (refused r) = lineOf (bytes "refused" ∷ digitsOf (refusalNumber r) ∷ [])
+printed (refused r) = lineOf (bytes "refused" ∷ digitsOf (sumOf r) ∷ [])
 printed (written text) = text
 
 abbrev pub programRoom : ℕ

@@ -22,6 +22,7 @@ use Rattle.rules.specs.Model.{State, Machine, choose, upd, step, steps, 
 abbrev pub like : List OpRow → List ListRow → Edit → Edit → Sheet
 like ops clobs e e′ =
     record {
+      above = 4;
       slots = 2;
       regs = record { memory = false; units = 0 ∷ [] } ∷ [];
       classes = record { slots = true; members = 0 ∷ [] } ∷ [];

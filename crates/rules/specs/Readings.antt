@@ -1,8 +1,12 @@
--- How document 01 is read: the sheets of docs/DECISIONS.md, by their numbers there, with what the definitions must answer.
-use mathlib.Core.List.{List, [], _∷_}
-use Rattle.entity.specs.declared.forms.Refusal.the-variants.{Rows, Limits, Names, Blocks, Operands, Edits, Call, Room}
-use Rattle.rules.specs.Answer.{refused}
-use Rattle.rules.specs.Worked.{Example, example, writes, Gives}
+-- How documents 01 and 02 are read: the sheets of docs/DECISIONS.md, by their numbers there, with what the definitions must answer.
+use mathlib.Core.Path.{_≡_}
+use mathlib.Core.List.{List, [], _∷_, map}
+use Prim.Native.Nat.{ℕ}
+use Prim.Native.String.{String}
+use lib.IntN.{pos, negℤ}
+use Rattle.entity.specs.declared.forms.Refusal.the-variants.{Rows, Limits, Names, NoEntry, NotSmaller, Operands, Edits, Call, Room}
+use Rattle.rules.specs.Answer.{refused, answer, returned, program}
+use Rattle.rules.specs.Worked.{lines, Example, example, writes, Gives}
 
 abbrev pub readings : List Example
 readings =
@@ -24,7 +28,7 @@ readings =
     ∷ example "slots,0/reg,0,0,0/value,0,-/block,0,1,-,1/op,0,fixed,0,f0,r0/" 1 1 65536 (refused Rows)  -- 1.16
     ∷ example "slots,1/block,0,1,-,1/edit,0,espill,s0,-,-/" 1 1 65536 (refused Rows)  -- 1.17
     ∷ example "slots,0/block,0,1,-,1/" 1 1 65536 (writes "count,0,0,0,0,0,0,0,0,0/")  -- 1.18
-    ∷ example "slots,0/" 1 1 65536 (refused Blocks)  -- 1.19
+    ∷ example "slots,0/" 1 1 65536 (refused NoEntry)  -- 1.19
     ∷ example "slots,65/" 4294967295 0 65536 (refused Call)  -- 1.20
     ∷ example "slots,0/block,0,512,-,1/block,1,1,-,1/" 1 1 65536 (refused Limits)  -- 2.1
     ∷ example "slots,0/block,0,511,-,1/block,1,1,-,1/" 1 1 65536 (writes "count,0,0,0,0,0,0,0,0,0/")  -- 2.2
@@ -45,7 +49,7 @@ readings =
     ∷ example "slots,0/reg,0,0,0/class,0,0/class,1,0/group,0,0,0/group,1,1,0/block,0,1,-,1/" 1 1 65536 (writes "count,0,0,0,0,0,0,0,0,0/")  -- 3.12
     ∷ example "slots,1/block,0,1,-,1/edit,0,espill,s0,r0,-/" 1 1 65536 (refused Names)  -- 3.13
     ∷ example "slots,0/block,0,1,-,1/block,1,1,0,0/block,2,1,0,0/block,3,1,0,0/succ,0,2,1/succ,1,3/succ,2,3/pred,1,0/pred,2,0/pred,3,2,1/" 1 1 65536 (writes "count,0,0,0,0,0,0,0,0,0/")  -- 4.1
-    ∷ example "slots,0/block,0,1,0,1/" 1 1 65536 (refused Blocks)  -- 4.2
+    ∷ example "slots,0/block,0,1,0,1/" 1 1 65536 (refused (NotSmaller 2))  -- 4.2
     ∷ example "slots,0/block,0,1,-,1/block,1,1,0,1/" 1 1 65536 (writes "count,0,0,0,0,0,0,0,0,0/")  -- 4.3
     ∷ example "slots,0/block,0,1,-,1/block,1,1,-,0/succ,0,1/pred,1,0/" 1 1 65536 (writes "count,0,0,0,0,0,0,0,0,0/")  -- 4.4
     ∷ example "slots,1/reg,0,0,0/value,0,0/block,0,1,-,1/block,1,1,0,0/block,2,1,1,0/succ,0,1,2/pred,1,0/pred,2,0/edit,1,move,s0,r0,0/edit,2,move,s0,r0,0/" 1 0 65536 (writes "edit,1,move,s0,r0,0/edit,2,none,-,-,-/count,0,0,0,0,1,0,0,0,0/")  -- 4.5
@@ -68,7 +72,7 @@ readings =
     ∷ example "slots,1/reg,0,0,0/block,0,1,-,1/edit,0,espill,r0,r0,-/" 1 1 65536 (refused Edits)  -- 6.6
     ∷ example "slots,0/block,0,1,-,1/" 1 1 25 (writes "count,0,0,0,0,0,0,0,0,0/")  -- 8.1
     ∷ example "slots,0/block,0,1,-,1/" 1 1 24 (refused Room)  -- 8.2
-    ∷ example "slots,0/" 1 1 0 (refused Blocks)  -- 8.3
+    ∷ example "slots,0/" 1 1 0 (refused NoEntry)  -- 8.3
     ∷ example "slots,0/reg,0,0,0/value,0,-/block,0,1,-,1/block,1,1,0,0/succ,0,1/pred,1,0/op,0,def,0,f0,r0/edit,1,remat,r0,-,0/" 1 0 65536 (writes "edit,1,remat,r0,-,0/count,0,0,0,0,0,0,0,0,0/")  -- F.1
     ∷ example "slots,0/reg,0,0,0/value,0,-/block,0,1,-,1/block,1,1,0,0/succ,0,1/pred,1,0/op,0,def,0,f0,r0/edit,1,remat,r0,-,0/" 2 0 65536 (writes "edit,1,none,-,-,-/count,0,0,0,1,0,0,0,0,0/")  -- F.2
     ∷ example "slots,1/reg,0,0,0/value,0,0/block,0,1,-,1/block,1,1,0,0/succ,0,1/pred,1,0/edit,0,move,s0,r0,0/edit,1,move,s0,r0,0/" 1 0 65536 (writes "edit,0,move,s0,r0,0/edit,1,none,-,-,-/count,0,0,0,0,1,0,0,0,0/")  -- F.3
@@ -132,5 +136,48 @@ readings =
     ∷ example "slots,1/value,0,0/block,0,1,-,1/edit,0,remat,s0,-,0/" 0 1 65536 (writes "edit,0,none,-,-,-/count,0,0,0,0,0,0,0,0,1/")  -- S.7
     ∷ []
 
-abbrev pub Readings : Type 0
-Readings = Gives readings
+-- Document 02, request 1: a sheet, the length of the output buffer, and "100 times the row plus the number"
+pub record Told : Type 0 where
+  pub sheet : String
+  pub room : ℕ
+  pub sum : ℕ
+
+abbrev pub told : String → ℕ → ℕ → Told
+told t n sum = record { sheet = t; room = n; sum = sum }
+
+abbrev pub rows : List Told
+rows =
+    told "slots,0/" 65536 4  -- R1.1
+    ∷ told "slots,0/block,0,1,-,0/" 65536 4  -- R1.2
+    ∷ told "slots,0/block,0,1,-,0/block,1,0,-,0/" 65536 4  -- R1.3
+    ∷ told "slots,0/block,0,0,-,1/" 65536 204  -- R1.4
+    ∷ told "slots,1/reg,0,0,0/class,0,1,0/value,0,0/block,0,1,-,1/block,1,0,-,1/" 65536 604  -- R1.5
+    ∷ told "slots,0/block,0,1,-,1/block,1,0,-,1/block,2,0,-,1/" 65536 304  -- R1.6
+    ∷ told "slots,0/block,0,1,-,1/block,1,1,-,1/succ,0,1/" 65536 209  -- R1.7
+    ∷ told "slots,0/block,0,1,-,1/block,1,1,-,1/pred,1,0/" 65536 309  -- R1.8
+    ∷ told "slots,0/block,0,1,-,1/block,1,1,-,1/block,2,1,-,1/succ,2,0/pred,1,0/" 65536 309  -- R1.9
+    ∷ told "slots,0/block,0,1,-,1/block,1,1,-,1/succ,0,1/succ,1,0/" 65536 209  -- R1.10
+    ∷ told "slots,0/block,0,1,-,1/succ,0,0/" 65536 209  -- R1.11
+    ∷ told "slots,0/block,0,1,-,1/block,1,1,-,1/block,2,0,-,1/succ,0,1/" 65536 404  -- R1.12
+    ∷ told "slots,0/block,0,1,-,1/block,1,1,-,1/succ,0,1/pred,1,0/" 65536 310  -- R1.13
+    ∷ told "slots,0/block,0,1,-,1/block,1,1,-,0/block,2,1,-,1/block,3,1,-,0/succ,0,1/succ,2,1,3/pred,1,0,2/pred,3,2/" 65536 410  -- R1.14
+    ∷ told "slots,0/block,0,1,-,1/block,1,1,-,1/block,2,1,-,0/succ,0,1,2/succ,1,2/pred,1,0/pred,2,0,1/" 65536 210  -- R1.15
+    ∷ told "slots,0/block,0,1,-,1/block,1,1,-,1/block,2,1,-,1/succ,0,0/succ,1,2/pred,0,0/" 65536 309  -- R1.16
+    ∷ told "slots,0/block,0,1,-,1/block,1,1,-,0/block,2,1,-,0/succ,0,2/succ,2,1/pred,1,2/pred,2,0/" 65536 311  -- R1.17
+    ∷ told "slots,0/block,0,1,0,1/" 65536 211  -- R1.18
+    ∷ told "slots,0/block,0,1,-,1/block,1,1,1,1/block,2,1,-,0/block,3,1,-,0/succ,0,3/succ,3,2/pred,2,3/pred,3,0/" 65536 311  -- R1.19
+    ∷ told "slots,0/block,0,1,0,1/block,1,1,-,1/succ,0,1/pred,1,0/" 65536 310  -- R1.20
+    ∷ told "slots,0/block,0,1,-,1/block,1,1,-,0/block,2,1,-,0/" 65536 312  -- R1.21
+    ∷ told "slots,0/block,0,1,-,1/block,1,1,-,0/block,2,1,2,1/" 65536 411  -- R1.22
+    ∷ told "slots,0/block,0,0,1,1/" 65536 3  -- R1.23
+    ∷ told "slots,0/reg,0,0,0/class,0,0/value,0,-/block,0,1,-,1/block,1,1,-,0/op,0,use,0,c0,r0/" 65536 612  -- R1.24
+    ∷ told "slots,0/reg,0,0,0/class,0,0/value,0,-/block,0,1,-,1/op,0,use,0,c0,r0/" 65536 5  -- R1.25
+    ∷ told "slots,0/block,0,1,-,1/" 0 8  -- R1.26
+    ∷ []
+
+pub record Readings : Type 0 where
+  pub gives : Gives readings
+  -- request 1, at level 1 with sweep
+  pub returns : map (λ e. returned (answer (lines (e .sheet)) 1 1 (e .room))) rows ≡ map (λ e. negℤ (pos (e .sum))) rows
+  -- R1.27 and R1.28: the program's row shows the sum
+  pub prints : (program (lines "slots,0/block,0,0,-,1/") ≡ lines "refused,204/") × (program (lines "slots,99999/") ≡ lines "refused,2/")

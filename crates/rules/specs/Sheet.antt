@@ -62,8 +62,9 @@ pub record EditRow : Type 0 where
   pub at : ℕ
   pub edit : Edit
 
--- `values` has each value's home slot, `vgroups` each group's values
+-- `values` has each value's home slot, `vgroups` each group's values; `above` is how many rows stand before the `block` rows
 pub record Sheet : Type 0 where
+  pub above : ℕ
   pub slots : ℕ
   pub regs : List RegRow
   pub classes : List ClassRow
@@ -153,10 +154,11 @@ field i r = getD r i 0
 unfoldable pub listRow : List ℕ → ListRow
 listRow r = record { at = field 1 r; list = drop 2 r }
 
--- what a sheet says whose rows of each kind are these
-unfoldable pub sheetBy : (String → List (List ℕ)) → Sheet
-sheetBy rows =
+-- what a sheet says whose rows of each kind are these, so many of them before the `block` rows
+unfoldable pub sheetBy : ℕ → (String → List (List ℕ)) → Sheet
+sheetBy above rows =
     record {
+      above = above;
       slots = getD (map (field 1) (rows "slots")) 0 0;
       regs = map (λ r. record { memory = flagOf (field 2 r); units = drop 3 r }) (rows "reg");
       classes = map (λ r. record { slots = flagOf (field 2 r); members = drop 3 r }) (rows "class");
@@ -173,7 +175,7 @@ sheetBy rows =
     }
 
 unfoldable pub sheetOf : List (List ℕ) → Sheet
-sheetOf rows = sheetBy (λ kind. keep (λ r. eqb (field 0 r) (word kind)) rows)
+sheetOf rows = sheetBy (length (keep (λ r. ltb (field 0 r) (word "block")) rows)) (λ kind. keep (λ r. eqb (field 0 r) (word kind)) rows)
 
 -- ---- what a sheet says
 

@@ -15,11 +15,11 @@ use Rattle.rules.specs.Words.{slotsWord}
 use Rattle.rules.specs.Cells.{word, words, find}
 use Rattle.rules.specs.Rows.{kind}
 use Rattle.rules.specs.Sheet.{RegRow, ClassRow, GroupRow, BlockRow, ParamRow, OpRow, EditRow, field, flagOf, maybe, placeOf, constraintOf, kindOf, editOf, listRow, sheetBy, sheetOf, blockCount}
-use Rattle.table.specs.Rows.{countIn, kindRow}
+use Rattle.table.specs.Rows.{firstIn, countIn, kindRow}
 use Rattle.table.specs.Table.{Indexed}
 use Rattle.table.specs.Sheet.{rowsAt, sheetIn}
-use Rattle.table.proofs.Beginnings.{from-at}
-use Rattle.table.proofs.Kindred.{count-is, kind-row-is}
+use Rattle.table.proofs.Beginnings.{before, from-at}
+use Rattle.table.proofs.Kindred.{begin-is, count-is, kind-row-is}
 
 -- a list by its members
 module _ {A : Type 0} (f : ℕ → A) (n : ℕ) where
@@ -72,9 +72,10 @@ module _ {rs : List (List ℕ)} {t : List ℕ} (x : Indexed rs t) where
 
   -- THE SHEET
   pub sheet-in-is : sheetIn t ≡ sheetOf rs
-  unfolding sheetIn sheetOf sheetBy word words find
+  unfolding sheetIn sheetOf sheetBy word words find before
   sheet-in-is =
       rw (
+        begin-is x 6 (omega arith),
         rows-are 0 (omega arith),
         rows-are 1 (omega arith),
         rows-are 2 (omega arith),
@@ -121,6 +122,10 @@ pub record ReadOff {A : Type 0} (t : List ℕ) (k : ℕ) (f : List ℕ → A) (l
   pub is : l ≡ map f (rowsAt t k)
 
 module _ (t : List ℕ) where
+  pub above-is : sheetIn t .above ≡ firstIn t 6
+  unfolding sheetIn sheetBy
+  above-is = refl
+
   pub slots-are : sheetIn t .slots ≡ field 1 (kindRow t 0 0)
   unfolding sheetIn sheetBy word words find
   slots-are = read-at t 0 (field 1) 0

@@ -64,6 +64,13 @@ pub fn row(t: &[u32], i: u32) -> &[u32]
     part(t, from, to)
 }
 
+// How many rows there are before those of a kind.
+pub fn first(t: &[u32], k: Kind) -> u32
+    ensures { λ r. ⌜ r ≡ firstIn (now (t .entry)) (k .0) ⌝ }
+{
+    read_u32(t, INDEX + k.0 as usize)
+}
+
 // How many rows there are of a kind.
 pub fn count(t: &[u32], k: Kind) -> u32
     ensures { λ r. ⌜ r ≡ countIn (now (t .entry)) (k .0) ⌝ }

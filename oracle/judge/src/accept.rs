@@ -1,17 +1,18 @@
-//! The refusals 2 to 6 of a sheet whose rows are whole. Each check may lean on the
-//! ones before it. why.rs writes the same rules a second time.
+//! The refusals 2 to 6 and 9 to 12 of a sheet whose rows are whole, with the row of the
+//! block concerned. Each check may lean on the ones before it. why.rs writes the same
+//! rules a second time.
 
 use crate::sheet::*;
 
 impl Sheet {
-    /// The refusal, or `None` for an accepted sheet.
+    /// 100 times the refusal's row plus its number, or `None` for an accepted sheet.
     pub fn refusal(&self) -> Option<u32> {
         if self.passes_limit() {
             Some(2)
         } else if self.names_wrong() {
             Some(3)
-        } else if self.blocks_wrong() {
-            Some(4)
+        } else if let Some(sum) = self.blocks_wrong() {
+            Some(sum)
         } else if self.operands_wrong() {
             Some(5)
         } else if self.edits_wrong() {
@@ -146,45 +147,60 @@ impl Sheet {
     }
 }
 
-// ---- 4 -----------------------------------------------------------------------------
+// ---- 4, 9, 10, 11, 12 --------------------------------------------------------------
 
 /// Sets of blocks are words: there are at most 64.
 type Blocks = [u64; MAX_BLOCKS];
 
-impl Sheet {
-    fn blocks_wrong(&self) -> bool {
-        let mut succs: Blocks = [0; MAX_BLOCKS];
-        let mut preds: Blocks = [0; MAX_BLOCKS];
-        let mut back: Blocks = [0; MAX_BLOCKS];
-        for (b, l) in &self.succs {
-            for &x in l {
-                succs[*b as usize] |= 1 << x;
-                back[x as usize] |= 1 << b;
-            }
+/// The lists of each block, and the blocks in whose lists it stands.
+fn lists(rows: &[(u32, Vec<u32>)]) -> (Blocks, Blocks) {
+    let (mut own, mut others): (Blocks, Blocks) = ([0; MAX_BLOCKS], [0; MAX_BLOCKS]);
+    for (b, l) in rows {
+        for &x in l {
+            own[*b as usize] |= 1 << x;
+            others[x as usize] |= 1 << b;
         }
-        for (b, l) in &self.preds {
-            for &x in l {
-                preds[*b as usize] |= 1 << x;
-            }
-        }
-        !self.blocks.iter().any(|b| b.entry)
-            || self.blocks.iter().any(|b| b.insts == 0)
-            || preds != back
-            || self.edges_wrong(&succs, &preds)
-            || self.reached(&succs).count_ones() as usize != self.blocks.len()
     }
+    (own, others)
+}
 
-    fn edges_wrong(&self, succs: &Blocks, preds: &Blocks) -> bool {
+impl Sheet {
+    /// The rules in their order, each over all blocks before the next.
+    fn blocks_wrong(&self) -> Option<u32> {
+        if !self.blocks.iter().any(|b| b.entry) {
+            return Some(4);
+        }
+        let (succs, succ_of) = lists(&self.succs);
+        let (preds, pred_of) = lists(&self.preds);
         let mut joins = 0u64;
         for (b, &p) in preds.iter().enumerate() {
             joins |= ((p.count_ones() > 1) as u64) << b;
         }
-        self.blocks.iter().enumerate().any(|(b, block)| {
-            (block.entry && preds[b] != 0)
-                || (succs[b].count_ones() > 1 && succs[b] & joins != 0)
-                || (preds[b].count_ones() == 1 && preds[b].trailing_zeros() as usize >= b)
-                || block.idom.is_some_and(|d| d as usize >= b)
+        let reached = self.reached(&succs);
+        let wrong = |number: u32, b: usize| match number {
+            4 => self.blocks[b].insts == 0,
+            9 => succs[b] & !pred_of[b] != 0 || preds[b] & !succ_of[b] != 0,
+            10 => {
+                (self.blocks[b].entry && preds[b] != 0)
+                    || (succs[b].count_ones() > 1 && succs[b] & joins != 0)
+            }
+            11 => {
+                (preds[b].count_ones() == 1 && preds[b].trailing_zeros() as usize >= b)
+                    || self.blocks[b].idom.is_some_and(|d| d as usize >= b)
+            }
+            _ => reached >> b & 1 == 0,
+        };
+        [4, 9, 10, 11, 12].into_iter().find_map(|number| {
+            let b = (0..self.blocks.len()).find(|&b| wrong(number, b))?;
+            Some(100 * self.block_row(b) + number)
         })
+    }
+
+    /// The row of a block, counted from 1: `slots`, the rows of the machine and of the
+    /// values, and the blocks before it stand above.
+    fn block_row(&self, b: usize) -> u32 {
+        let machine = self.regs.len() + self.classes.len() + self.groups.len();
+        (1 + machine + self.homes.len() + self.vgroups.len() + b + 1) as u32
     }
 
     fn reached(&self, succs: &Blocks) -> u64 {

@@ -1,5 +1,7 @@
 //! What a file of cases exercises, and whether something that it should is missing.
 
+use std::collections::BTreeMap;
+
 use crate::frames::Case;
 use crate::run::{self, Outcome};
 use crate::sheet::*;
@@ -17,15 +19,34 @@ const COUNTS: [(&str, usize); 9] = [
     ("dead_remat", 0),
 ];
 
-/// In the order of document 01's table.
-const REFUSALS: [usize; 8] = [7, 1, 2, 3, 4, 5, 6, 8];
+/// In the order of the table, each with whether it tells a row.
+const REFUSALS: [(u32, bool); 13] = [
+    (7, false),
+    (1, false),
+    (2, false),
+    (3, false),
+    (4, false),
+    (4, true),
+    (9, true),
+    (10, true),
+    (11, true),
+    (12, true),
+    (5, false),
+    (6, false),
+    (8, false),
+];
+
+fn name_of((n, row): (u32, bool)) -> String {
+    if row { format!("{n} at a row") } else { n.to_string() }
+}
 
 const SIZES: [usize; 6] = [300, 1000, 4000, 16_000, 40_000, MAX_SHEET];
 
 #[derive(Default)]
 struct Tally {
     accepted: usize,
-    refused: [usize; 9],
+    refused: BTreeMap<(u32, bool), usize>,
+    most_row: u32,
     by_level: [usize; 4],
     by_sweep: [usize; 2],
     by_size: [usize; 6],
@@ -40,16 +61,22 @@ struct Tally {
 impl Tally {
     fn take(&mut self, c: &Case) {
         match run::accept(c) {
-            Err(n) => self.refused[n as usize] += 1,
+            Err(sum) => self.take_refused(sum),
             Ok(sheet) => {
                 let out = run::run(&sheet, c.level, c.sweep);
                 if run::write(&out).len() > c.cap {
-                    self.refused[8] += 1;
+                    self.take_refused(8);
                 } else {
                     self.take_accepted(c, &sheet, &out);
                 }
             }
         }
+    }
+
+    fn take_refused(&mut self, sum: u32) {
+        let (row, n) = (sum / 100, sum % 100);
+        *self.refused.entry((n, row > 0)).or_default() += 1;
+        self.most_row = self.most_row.max(row);
     }
 
     fn take_accepted(&mut self, c: &Case, sheet: &Sheet, out: &Outcome) {
@@ -75,8 +102,9 @@ impl Tally {
 
     fn print(&self, cases: usize) {
         println!("cases {cases}  accepted {}", self.accepted);
-        let refused = REFUSALS.map(|n| format!("  {n}: {}", self.refused[n])).concat();
+        let refused = REFUSALS.map(|r| format!("  {}: {}", name_of(r), self.of(r))).concat();
         println!("refused:{refused}");
+        println!("highest row told {}", self.most_row);
         println!("accepted by level {:?}, by sweep flag {:?}", self.by_level, self.by_sweep);
         println!("accepted by sheet bytes up to {SIZES:?}: {:?}", self.by_size);
         println!("level 3 with some block visited again: {}\n", self.visited_again);
@@ -91,12 +119,16 @@ impl Tally {
         }
     }
 
+    fn of(&self, r: (u32, bool)) -> usize {
+        self.refused.get(&r).copied().unwrap_or(0)
+    }
+
     /// What no case shows, though it should.
     fn missing(&self) -> Vec<String> {
         let mut l = vec![];
-        for n in REFUSALS {
-            if self.refused[n] == 0 {
-                l.push(format!("refusal {n}"));
+        for r in REFUSALS {
+            if self.of(r) == 0 {
+                l.push(format!("refusal {}", name_of(r)));
             }
         }
         for (k, &(name, lowest)) in COUNTS.iter().enumerate() {
@@ -110,7 +142,7 @@ impl Tally {
     }
 }
 
-/// True if each refusal comes up, and each count at each level that can raise it.
+/// True if each refusal comes up, 4 with a row and without one, and each count at each level that can raise it.
 pub fn cover(cases: &[Case]) -> bool {
     let mut t = Tally::default();
     cases.iter().for_each(|c| t.take(c));

@@ -435,31 +435,31 @@ fn names(l: &mut List) {
     l.rows("a register's units may fall", "slots,0 / reg,0,0,1,0 / block,0,1,-,1", 25);
 }
 
-/// Refusal 4.
+/// Refusals 4, 9, 10, 11 and 12, with the row of the block.
 fn blocks(l: &mut List) {
     l.rows("4 no entry", "slots,0 / block,0,1,-,0", -4);
-    l.rows("4 no instructions", "slots,0 / block,0,0,-,1", -4);
-    l.rows("4 succ without pred", "slots,0 / block,0,1,-,1 / block,1,1,0,0 / succ,0,1", -4);
-    l.rows("4 pred without succ", "slots,0 / block,0,1,-,1 / block,1,1,0,0 / pred,1,0", -4);
+    l.rows("4 no instructions", "slots,0 / block,0,0,-,1", -204);
+    l.rows("9 succ without pred", "slots,0 / block,0,1,-,1 / block,1,1,0,0 / succ,0,1", -209);
+    l.rows("9 pred without succ", "slots,0 / block,0,1,-,1 / block,1,1,0,0 / pred,1,0", -309);
     l.rows("two blocks", "slots,0 / block,0,1,-,1 / block,1,1,0,0 / succ,0,1 / pred,1,0", 25);
     l.rows(
-        "4 entry with predecessor",
+        "10 entry with predecessor",
         "slots,0 / block,0,1,-,1 / block,1,1,0,1 / succ,0,1 / pred,1,0",
-        -4,
+        -310,
     );
-    l.rows("4 idom itself", "slots,0 / block,0,1,0,1", -4);
-    l.rows("4 idom larger", "slots,0 / block,0,1,1,1 / block,1,1,-,1", -4);
+    l.rows("11 idom itself", "slots,0 / block,0,1,0,1", -211);
+    l.rows("11 idom larger", "slots,0 / block,0,1,1,1 / block,1,1,-,1", -211);
     l.rows("an entry with an idom", "slots,0 / block,0,1,-,1 / block,1,1,0,1", 25);
-    l.rows("4 not reached", "slots,0 / block,0,1,-,1 / block,1,1,0,0", -4);
+    l.rows("12 not reached", "slots,0 / block,0,1,-,1 / block,1,1,0,0", -312);
     l.rows(
-        "4 two blocks that reach each other only",
+        "11 two blocks that reach each other only",
         "slots,0 / block,0,1,-,1 / block,1,1,-,0 / block,2,1,-,0 / succ,1,2 / succ,2,1 / pred,1,2 / pred,2,1",
-        -4,
+        -311,
     );
     l.rows(
-        "4 sole predecessor itself",
+        "11 sole predecessor itself",
         "slots,0 / block,0,1,-,1 / block,1,1,-,0 / succ,1,1 / pred,1,1",
-        -4,
+        -311,
     );
     l.rows(
         "self edge beside another predecessor",
@@ -467,9 +467,9 @@ fn blocks(l: &mut List) {
         25,
     );
     l.rows(
-        "4 sole predecessor larger",
+        "11 sole predecessor larger",
         "slots,0 / block,0,1,-,0 / block,1,1,-,1 / succ,1,0 / pred,0,1",
-        -4,
+        -211,
     );
     l.rows(
         "block 0 reached from two later entries",
@@ -477,10 +477,30 @@ fn blocks(l: &mut List) {
         25,
     );
     l.rows(
-        "4 critical edge",
+        "10 critical edge",
         "slots,0 / block,0,1,-,1 / block,1,1,0,0 / block,2,1,0,0 / succ,0,1,2 / succ,1,2 / pred,1,0 / pred,2,0,1",
-        -4,
+        -210,
     );
+    l.rows(
+        "12 three blocks in a ring that nothing enters",
+        "slots,0 / block,0,1,-,1 / block,1,1,-,0 / block,2,1,-,0 / block,3,1,-,0 / succ,1,2,3 / succ,2,1 / succ,3,1 / pred,1,2,3 / pred,2,1 / pred,3,1",
+        -312,
+    );
+    let values: String = (0..98).map(|v| format!("value,{v},- / ")).collect();
+    l.rows("4 at row 100", &format!("slots,0 / {values}block,0,0,-,1"), -10_004);
+    l.rows("12 the last of 64 blocks", &format!("{} / block,63,1,-,0", most_rows()), -52_912);
+}
+
+/// As many rows before the last block as there can be: a sheet lacks only block 63.
+fn most_rows() -> String {
+    let mut l = vec!["slots,0".to_string()];
+    l.extend((0..128).map(|r| format!("reg,{r},0,{r}")));
+    l.extend((0..16).map(|c| format!("class,{c},0")));
+    l.extend((0..32).map(|g| format!("group,{g},0,{g}")));
+    l.extend((0..256).map(|v| format!("value,{v},-")));
+    l.extend((0..32).map(|g| format!("vgroup,{g},0")));
+    l.extend((0..63).map(|b| format!("block,{b},1,-,1")));
+    l.join(" / ")
 }
 
 /// Refusal 5.

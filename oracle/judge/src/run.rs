@@ -25,7 +25,7 @@ use crate::{MoveOptimizationLevel, Stats};
 
 // ---- the call --------------------------------------------------------------------
 
-/// The answer's bytes, or the refusal number.
+/// The answer's bytes, or the refusal: 100 times the row plus the number.
 pub fn call(c: &Case) -> Result<Vec<u8>, u32> {
     let out = write(&run(&accept(c)?, c.level, c.sweep));
     if out.len() > c.cap { Err(8) } else { Ok(out) }

@@ -1,5 +1,6 @@
-//! Which rules of the refusals 2 to 6 a sheet breaks: a second writing of the
-//! checks, rule by rule, against which accept.rs is held by `oracle why`.
+//! Which rules of the refusals 2 to 6 and 9 to 12 a sheet breaks, and at which block: a
+//! second writing of the checks, rule by rule, against which accept.rs is held by
+//! `oracle why`.
 
 use std::collections::BTreeMap;
 
@@ -8,22 +9,38 @@ use crate::read::read;
 use crate::run;
 use crate::sheet::*;
 
-/// All rules broken at the first refusal number that has one.
-pub fn why(s: &Sheet) -> (u32, Vec<&'static str>) {
-    for (n, f) in [
-        (2, limits as fn(&Sheet) -> Vec<&'static str>),
-        (3, names),
-        (4, blocks),
-        (5, operands),
-        (6, edits),
-    ] {
-        let l = f(s);
-        if !l.is_empty() {
-            return (n, l);
+/// All rules broken at the first refusal number that has one, and the lowest block
+/// concerned by them; where one concerns no block, none.
+pub fn why(s: &Sheet) -> (u32, Option<u32>, Vec<&'static str>) {
+    let no_block = |f: fn(&Sheet) -> Vec<&'static str>| -> Broken {
+        f(s).into_iter().map(|rule| (rule, None)).collect()
+    };
+    let all: [(u32, &dyn Fn() -> Broken); 9] = [
+        (2, &|| no_block(limits)),
+        (3, &|| no_block(names)),
+        (4, &|| entry_and_empty(s)),
+        (9, &|| disagree(s)),
+        (10, &|| edges(s)),
+        (11, &|| not_smaller(s)),
+        (12, &|| not_reached(s)),
+        (5, &|| no_block(operands)),
+        (6, &|| no_block(edits)),
+    ];
+    for (n, broken) in all {
+        let broken = broken();
+        if !broken.is_empty() {
+            let mut rules: Vec<&'static str> = broken.iter().map(|x| x.0).collect();
+            rules.sort();
+            rules.dedup();
+            // `None` is the least.
+            return (n, broken.iter().map(|x| x.1).min().unwrap(), rules);
         }
     }
-    (0, vec![])
+    (0, None, vec![])
 }
+
+/// Each rule that is broken, and by which block, if by one.
+type Broken = Vec<(&'static str, Option<u32>)>;
 
 fn limits(s: &Sheet) -> Vec<&'static str> {
     let mut l = vec![];
@@ -208,41 +225,76 @@ fn names(s: &Sheet) -> Vec<&'static str> {
     l
 }
 
-fn blocks(s: &Sheet) -> Vec<&'static str> {
+fn entry_and_empty(s: &Sheet) -> Broken {
     let mut l = vec![];
-    let n = s.blocks.len();
-    let mut edges: Vec<(u32, u32)> =
-        s.succs.iter().flat_map(|(b, x)| x.iter().map(move |&y| (*b, y))).collect();
-    let mut back: Vec<(u32, u32)> =
-        s.preds.iter().flat_map(|(b, x)| x.iter().map(move |&y| (y, *b))).collect();
-    edges.sort();
-    back.sort();
     if s.blocks.iter().all(|b| !b.entry) {
-        l.push("no entry");
+        l.push(("no entry", None));
     }
-    if s.blocks.iter().any(|b| b.insts == 0) {
-        l.push("empty block");
+    for (b, x) in s.blocks.iter().enumerate() {
+        if x.insts == 0 {
+            l.push(("empty block", Some(b as u32)));
+        }
     }
-    if edges != back {
-        l.push("lists disagree");
-        // The other rules are about one graph.
-        return l;
+    l
+}
+
+/// From, to.
+fn pairs(rows: &[(u32, Vec<u32>)]) -> Vec<(u32, u32)> {
+    rows.iter().flat_map(|(b, x)| x.iter().map(move |&y| (*b, y))).collect()
+}
+
+fn disagree(s: &Sheet) -> Broken {
+    let (succs, preds) = (pairs(&s.succs), pairs(&s.preds));
+    let mut l = vec![];
+    for &(b, t) in &succs {
+        if !preds.contains(&(t, b)) {
+            l.push(("successor does not name it back", Some(b)));
+        }
     }
+    for &(b, p) in &preds {
+        if !succs.contains(&(p, b)) {
+            l.push(("predecessor does not name it back", Some(b)));
+        }
+    }
+    l
+}
+
+/// The lists agree from here on: one graph.
+fn edges(s: &Sheet) -> Broken {
+    let edges = pairs(&s.succs);
     let outs = |b: u32| edges.iter().filter(|e| e.0 == b).count();
     let ins = |b: u32| edges.iter().filter(|e| e.1 == b).count();
-    if (0..n).any(|b| s.blocks[b].entry && ins(b as u32) > 0) {
-        l.push("entry with predecessor");
+    let mut l = vec![];
+    for &(a, b) in &edges {
+        if s.blocks[b as usize].entry {
+            l.push(("entry with predecessor", Some(b)));
+        }
+        if outs(a) > 1 && ins(b) > 1 {
+            l.push(("several successors meet several predecessors", Some(a)));
+        }
     }
-    if edges.iter().any(|&(a, b)| outs(a) > 1 && ins(b) > 1) {
-        l.push("several successors meet several predecessors");
+    l
+}
+
+fn not_smaller(s: &Sheet) -> Broken {
+    let mut l = vec![];
+    for (b, p) in &s.preds {
+        if p.len() == 1 && p[0] >= *b {
+            l.push(("sole predecessor not smaller", Some(*b)));
+        }
     }
-    if edges.iter().any(|&(a, b)| ins(b) == 1 && a >= b) {
-        l.push("sole predecessor not smaller");
+    for (b, x) in s.blocks.iter().enumerate() {
+        if x.idom.is_some_and(|d| d as usize >= b) {
+            l.push(("idom not smaller", Some(b as u32)));
+        }
     }
-    if s.blocks.iter().enumerate().any(|(b, x)| x.idom.is_some_and(|d| d as usize >= b)) {
-        l.push("idom not smaller");
-    }
-    let mut seen: Vec<u32> = (0..n as u32).filter(|&b| s.blocks[b as usize].entry).collect();
+    l
+}
+
+fn not_reached(s: &Sheet) -> Broken {
+    let edges = pairs(&s.succs);
+    let n = s.blocks.len() as u32;
+    let mut seen: Vec<u32> = (0..n).filter(|&b| s.blocks[b as usize].entry).collect();
     let mut at = 0;
     while at < seen.len() {
         for &(a, b) in &edges {
@@ -252,10 +304,7 @@ fn blocks(s: &Sheet) -> Vec<&'static str> {
         }
         at += 1;
     }
-    if seen.len() < n {
-        l.push("not reached");
-    }
-    l
+    (0..n).filter(|b| !seen.contains(b)).map(|b| ("not reached", Some(b))).collect()
 }
 
 fn operands(s: &Sheet) -> Vec<&'static str> {
@@ -385,7 +434,15 @@ fn edits(s: &Sheet) -> Vec<&'static str> {
     l
 }
 
-/// The refusal and the rules that are broken, by this file.
+/// The row of a block by the sheet's bytes, counted from 1.
+fn row(sheet: &[u8], b: u32) -> u32 {
+    let head = format!("block,{b},");
+    let rows = sheet.split(|&x| x == b'\n');
+    1 + rows.take_while(|r| !r.starts_with(head.as_bytes())).count() as u32
+}
+
+/// The refusal, 100 times the row plus the number, and the rules that are broken, by this
+/// file.
 fn refusal(c: &Case) -> (u32, Vec<String>) {
     if c.level > 3 {
         return (7, vec!["level".into()]);
@@ -396,8 +453,9 @@ fn refusal(c: &Case) -> (u32, Vec<String>) {
     match read(&c.sheet) {
         Err(what) => (1, vec![what]),
         Ok(s) => {
-            let (n, l) = why(&s);
-            (n, l.into_iter().map(String::from).collect())
+            let (n, block, l) = why(&s);
+            let row = block.map_or(0, |b| row(&c.sheet, b));
+            (100 * row + n, l.into_iter().map(String::from).collect())
         }
     }
 }
@@ -408,20 +466,20 @@ pub fn report(cases: &[Case]) -> bool {
     let mut bad = 0;
     for (k, c) in cases.iter().enumerate() {
         let first = run::accept(c).err().unwrap_or(0);
-        let (n, list) = refusal(c);
-        if n != first {
+        let (sum, list) = refusal(c);
+        if sum != first {
             bad += 1;
-            println!("case {k}: accept.rs gives {first}, the second writing {n} {list:?}");
+            println!("case {k}: accept.rs gives {first}, the second writing {sum} {list:?}");
         }
         for w in &list {
-            let t = table.entry((n, w.clone())).or_default();
+            let t = table.entry((sum % 100, w.clone())).or_default();
             t.0 += 1;
             t.1 += (list.len() == 1) as usize;
         }
     }
     println!("refusal: rule{:36}cases   it alone", "");
     for ((n, w), (all, alone)) in &table {
-        println!("{n}: {w:46} {all:>6} {alone:>8}");
+        println!("{n:>2}: {w:46} {all:>6} {alone:>8}");
     }
     println!("{} cases, {bad} on which the two writings of the refusals differ", cases.len());
     bad == 0

@@ -10,9 +10,24 @@ check-ready-spec =
     (λ c κs. search needs)
     (λ c rs x ok l b. names-refuse x ok l b (c .before .names-hold .ensures) (is-false (c .if1 .taken)))
     (λ c κs. search needs)
-    (λ c rs x ok l b. blocks-refuse x ok l b (c .before .before .before .names-hold .ensures) (is-true (c .before .before .if1 .left)) (c .before .blocks-hold .ensures) (is-false (c .if2 .taken)))
+    (λ c. search needs)
+    (λ c rs x ok l b.
+    let k = c .before .before .before in
+    blocks-refuse x ok l b (k .before .before .names-hold .ensures) (is-true (k .before .if1 .left)) (k .check-blocks .ensures) (c .before .r .given .1))
+    (λ c. search needs)
     (λ c κs. search needs)
-    (λ c rs x ok l b. operands-refuse x ok l b (c .before .before .before .before .before .names-hold .ensures) (is-true (c .before .before .before .before .if1 .left)) (c .before .before .before .blocks-hold .ensures) (is-true (c .before .before .if2 .left)) (c .before .operands-hold .ensures) (is-false (c .if3 .taken)))
+    (λ c rs x ok l b.
+    let t = c .before .before in
+    let k = t .before .before in
+    operands-refuse x ok l b (k .before .before .names-hold .ensures) (is-true (k .before .if1 .left)) (k .check-blocks .ensures) (t .enum-told .given .1) (c .before .operands-hold .ensures) (is-false (c .if2 .taken)))
     (λ c κs. search needs)
-    (λ c rs x ok l b. edits-refuse x ok l b (c .before .before .before .before .before .before .before .names-hold .ensures) (is-true (c .before .before .before .before .before .before .if1 .left)) (c .before .before .before .before .before .blocks-hold .ensures) (is-true (c .before .before .before .before .if2 .left)) (c .before .before .before .operands-hold .ensures) (is-true (c .before .before .if3 .left)) (c .before .edits-hold .ensures) (is-false (c .if4 .taken)))
-    (λ c rs x ok l b. all-pass x ok l b (c .before .before .before .before .before .before .before .names-hold .ensures) (is-true (c .before .before .before .before .before .before .if1 .left)) (c .before .before .before .before .before .blocks-hold .ensures) (is-true (c .before .before .before .before .if2 .left)) (c .before .before .before .operands-hold .ensures) (is-true (c .before .before .if3 .left)) (c .before .edits-hold .ensures) (is-true (c .if4 .left))))
+    (λ c rs x ok l b.
+    let o = c .before .before .before in
+    let t = o .before in
+    let k = t .before .before in
+    edits-refuse x ok l b (k .before .before .names-hold .ensures) (is-true (k .before .if1 .left)) (k .check-blocks .ensures) (t .enum-told .given .1) (o .operands-hold .ensures) (is-true (c .before .before .if2 .left)) (c .before .edits-hold .ensures) (is-false (c .if3 .taken)))
+    (λ c rs x ok l b.
+    let o = c .before .before .before in
+    let t = o .before in
+    let k = t .before .before in
+    all-pass x ok l b (k .before .before .names-hold .ensures) (is-true (k .before .if1 .left)) (k .check-blocks .ensures) (t .enum-told .given .1) (o .operands-hold .ensures) (is-true (c .before .before .if2 .left)) (c .before .edits-hold .ensures) (is-true (c .if3 .left))))

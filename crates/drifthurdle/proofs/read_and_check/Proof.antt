@@ -1,6 +1,6 @@
 use mathlib.Core.Path.{_∙_, ap}
 use native.Mathlib.Omega.{arith}
-use Rattle.drifthurdle.specs.Call.{asChecked}
+use Rattle.accept.specs.Blocks.{asChecked}
 use Rattle.sheet.proofs.Answering.{answer-true, answer-false}
 use Rattle.drifthurdle.proofs.Refusing.{is-true, is-false, rows-refuse, rows-pass, rows-ok, one-rows}
 use borrow.Author.Needs.{needs}

@@ -324,7 +324,14 @@ fn set_edge(rows: &mut Vec<(u32, Vec<u32>)>, a: u32, b: u32, on: bool) {
     rows.sort_by_key(|r| r.0);
 }
 
+/// Often more than one damage: then the lowest block and the order of the rules tell.
 pub(super) fn blocks(rng: &mut Rng, s: &mut Sheet) {
+    for _ in 0..[1, 1, 2, 3][rng.below(4)] {
+        block(rng, s);
+    }
+}
+
+fn block(rng: &mut Rng, s: &mut Sheet) {
     let n = s.blocks.len();
     let b = rng.below(n);
     match rng.below(12) {

@@ -1,6 +1,7 @@
 use Rattle.rules.specs.Text.{bytes}
 use Rattle.answer.proofs.Laying.{laid-then}
 use Rattle.answer.proofs.Refused.{row-laid}
+use native.Mathlib.Omega.{arith}
 use borrow.Author.Needs.{needs}
 use Rattle.answer.proofs.rows.render_refused.Statement.{statement}
 use Rattle.answer.proofs.rows.render_refused.Tie as tie
@@ -19,4 +20,4 @@ render-refused-spec =
     (λ c.
     let b = c .before .before .before .before .before .before in
     let a = b .before in
-    row-laid _ (a .number .ensures) (laid-then (a .before .before .before .before .put-text .ensures) (laid-then (b .put-number .ensures) (c .before .before .put-end .ensures)))))
+    row-laid _ (a .sum .ensures) (omega arith) (laid-then (a .before .before .before .before .put-text .ensures) (laid-then (b .put-number .ensures) (c .before .before .put-end .ensures)))))

@@ -1,10 +1,10 @@
 use Rattle.accept.proofs.Blockwise.{agree-stop, agree-go}
 use borrow.Author.Needs.{needs}
-use Rattle.accept.proofs.blocks.lists_agree.Statement.{statement}
-use Rattle.accept.proofs.blocks.lists_agree.Tie as tie
+use Rattle.accept.proofs.blocks.named_back.Statement.{statement}
+use Rattle.accept.proofs.blocks.named_back.Tie as tie
 
-pub lists-agree-spec : {M : Type 1} → statement M
-lists-agree-spec =
+pub named-back-spec : {M : Type 1} → statement M
+named-back-spec =
     tie.close
     (tie.spec
     (λ c κs. search needs)
