@@ -8,19 +8,15 @@ use Prim.Native.Nat.{ℕ, _<_}
 use mathlib.Core.Logic.{_↔_}
 use lib.Dec.{leb}
 use lib.ListN.{length}
-use Rattle.laws.specs.First.{first}
-use Rattle.laws.specs.Lists.{all, isIn}
+use Rattle.laws.specs.{First.first, Lists.all, Lists.isIn}
 use Rattle.bits.specs.Sets.{setOf}
 use Rattle.bits.specs.declared.sets.NumberSet.{NumberSet}
 use Rattle.entity.specs.declared.forms.Refusal.{Refusal}
-use Rattle.entity.specs.declared.sets.FoundBlock.{FoundBlock}
-use Rattle.entity.specs.declared.sets.FoundBlock.the-variants.{At, Nothing}
+use Rattle.entity.specs.declared.sets.FoundBlock.{FoundBlock, the-variants.At, the-variants.Nothing}
 use Rattle.rules.specs.Sheet.{Sheet, blockCount, predsOf}
 use Rattle.rules.specs.Accept.{filled, namedBack, edgesHold, smallerHold, reachedIn, isReached, eachBlock, Reached}
-use Rattle.accept.specs.declared.blocks.Checked.{Checked}
-use Rattle.accept.specs.declared.blocks.Checked.the-variants.{Accepted, Refused}
-use Rattle.accept.specs.declared.blocks.Rule.{Rule}
-use Rattle.accept.specs.declared.blocks.Rule.the-variants.{Filled, NamedBack, Edges, Smaller}
+use Rattle.accept.specs.declared.blocks.Checked.{Checked, the-variants.Accepted, the-variants.Refused}
+use Rattle.accept.specs.declared.blocks.Rule.{Rule, the-variants.Filled, the-variants.NamedBack, the-variants.Edges, the-variants.Smaller}
 
 -- what checks say
 unfoldable pub asChecked : Option Refusal → Checked

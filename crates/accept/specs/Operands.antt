@@ -4,8 +4,7 @@ use mathlib.Core.Option.{Option·elim}
 use Prim.Native.Nat.{ℕ}
 use lib.Dec.{eqb}
 use lib.ListN.{length}
-use Rattle.entity.specs.declared.forms.Constraint.{Constraint}
-use Rattle.entity.specs.declared.forms.Constraint.the-variants.{Class, Fixed, Reuse}
+use Rattle.entity.specs.declared.forms.Constraint.{Constraint, the-variants.Class, the-variants.Fixed, the-variants.Reuse}
 use Rattle.rules.specs.Sheet.{Sheet, OpRow, GroupRow}
 use Rattle.rules.specs.Accept.{operand, reuseHolds, headedBy, constraintHolds, fixedHolds, groupHolds}
 

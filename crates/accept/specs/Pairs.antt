@@ -1,5 +1,5 @@
 -- Refusal 6 in the steps in which the code goes: the emergency spill that is not yet closed, home slots and shared units as sets, and what is asked of one edit.
-use mathlib.Core.Bool.{Bool, true, false, cond, _&&_, _||_}
+use mathlib.Core.Bool.{Bool, false, cond, _&&_, _||_}
 use mathlib.Core.List.{List, map}
 use mathlib.Core.Option.{none, some, Option·elim}
 use Prim.Native.Nat.{ℕ, zero, suc}
@@ -7,12 +7,10 @@ use lib.Dec.{eqb}
 use Rattle.laws.specs.Lists.{all, any, isIn, from}
 use Rattle.bits.specs.Sets.{setOf}
 use Rattle.bits.specs.declared.sets.NumberSet.{NumberSet}
-use Rattle.entity.specs.declared.forms.Edit.{Edit}
-use Rattle.entity.specs.declared.forms.Edit.the-variants.{Move, Remat, Espill, Ereload, Misplaced, Nothing}
+use Rattle.entity.specs.declared.forms.Edit.{Edit, the-variants.Move, the-variants.Remat, the-variants.Espill, the-variants.Ereload, the-variants.Misplaced, the-variants.Nothing}
 use Rattle.rules.specs.Sheet.{Sheet, EditRow, regCount, unitsOf}
 use Rattle.rules.specs.Accept.{placed, paired, noHome, apart, pairHolds}
-use Rattle.accept.specs.declared.edits.Open.{Open}
-use Rattle.accept.specs.declared.edits.Open.the-variants.{None, Spill, Broken}
+use Rattle.accept.specs.declared.edits.Open.{Open, the-variants.None, the-variants.Spill, the-variants.Broken}
 
 -- the rest of a block's edits goes on well after these
 unfoldable pub pairedBy : Open → List Edit → Bool

@@ -10,7 +10,7 @@ use lib.ListN.{length, getD}
 use borrow.Author.Tests.{ltb-true, leb-true, eqb-true}
 use Rattle.laws.specs.Lists.{all, keep}
 use Rattle.laws.proofs.Cases.{by-bool}
-use Rattle.rules.specs.Words.{opWord}
+use Rattle.rules.proofs.Words.{opWord}
 use Rattle.rules.specs.Cells.{word, classMark, regMark}
 use Rattle.rules.specs.Rows.{Field, number, dash, place, constraint, only, _upTo_, fieldOk, end, _▸_, fits, opShape, kinds, kindFrom, kind, pairsOk, rowOk, sheetOk, reading}
 use Rattle.rules.specs.Sheet.{field}

@@ -29,7 +29,8 @@ use Rattle.entity.specs.declared.forms.Edit.{Edit}
 use Rattle.entity.specs.declared.forms.Edit.the-variants.{Move, Remat, Espill, Ereload, Misplaced, Nothing}
 use Rattle.entity.specs.declared.forms.OperandKind.{OperandKind}
 use Rattle.entity.specs.declared.forms.OperandKind.the-variants.{Def, Use, EarlyDef, DefGroup, UseGroup, EarlyDefGroup, NonAllocatable}
-use Rattle.rules.specs.Words.{defWord, defgWord, earlyWord, earlygWord, useWord, usegWord}
+use Rattle.rules.specs.Words.{defWord, earlyWord}
+use Rattle.rules.proofs.Words.{defgWord, earlygWord, useWord, usegWord}
 use Rattle.rules.specs.Cells.{word, find, words}
 use Rattle.rules.specs.Sheet.{Sheet, OpRow, isUse, placeOf, kindOf}
 use Rattle.rules.specs.Forward.{members, allDefs}

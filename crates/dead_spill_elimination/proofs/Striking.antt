@@ -22,8 +22,7 @@ use Rattle.rules.specs.Forward.{editsAt}
 use Rattle.rules.specs.Answer.{editCells}
 use Rattle.rules.specs.Function.{edit, inst, Target, into, over, target, Item, row, ins, items, look, instOf, In}
 use Rattle.rules.specs.Sweep.{wantedBefore, wantedAt, strikeBy, strike, struck, strikeItems}
-use Rattle.run.specs.Swept.{instructionOf}
-use Rattle.run.proofs.Stand.{in-map, here, items-in}
+use Rattle.run.proofs.Stand.{instructionOf, in-map, here, items-in}
 use Rattle.run.proofs.Struck.{items-other}
 use Rattle.entity.specs.Limits.{blockLimit, instLimit}
 use Rattle.table.specs.Layout.{editIndex, instIndex, editWidth}

@@ -7,7 +7,7 @@ use Prim.Native.Nat.{ℕ, zero, suc, _≤_, _<_}
 use native.Mathlib.Omega.{arith}
 use lib.Dec.{leb}
 use lib.ListN.{length, getD, drop, take, replicate, length-replicate, getD-replicate}
-use lib.Seq.{drop-nil, length-take-le, getD-take}
+use lib.Seq.{drop-nil, length-take-le, take-all, getD-take}
 use borrow.Author.Tests.{leb-true}
 use Rattle.laws.specs.Digits.{bit}
 use Rattle.laws.specs.Lists.{isIn}
@@ -100,11 +100,12 @@ module _ {t edits places counts : List ℕ} (h : Held t edits places counts) whe
 
     pub swept : (n : ℕ) (X : List ℕ) {marks′ cells′ counts′ : List ℕ} → n ≡ blockCount sh → length X ≡ n
         → ((f : Func) → Facts t edits places f n → (b s : ℕ) → (bit (getD X b 0) s ≡ true) ↔ WantedAtEnd f b s)
-        → ((g : All t places edits marks counts X) → Outcome g marks′ counts′) → cells′ ≡ applied edits marks′ → Swept t edits places counts cells′ counts′
-    swept n X {marks′} {cells′} {counts′} e l w k q =
+        → ((g : All t places edits marks counts X) → Outcome g marks′ counts′) → length marks′ ≡ length marks → cells′ ≡ applied edits (take editLimit marks′) → Swept t edits places counts cells′ counts′
+    swept n X {marks′} {cells′} {counts′} e l w k z q =
         let m : blockCount sh ≡ length X = sym (l ∙ e) in
         let u : (b s : ℕ) → (bit (getD X b 0) s ≡ true) ↔ WantedAtEnd f b s = w f (rw e (facts h)) in
-        rw q (done X m u marks′ counts′ (k (all-of X m u)))
+        let few : length marks′ ≤ editLimit = omega (arith, z, long, in-limits sh (h .ready .limits) .few-edits) in
+        rw (q ∙ ap (applied edits) (take-all editLimit marks′ few)) (done X m u marks′ counts′ (k (all-of X m u)))
 
 -- as many blocks and edits as the table has
 pub blocks-are-few : {t edits places counts : List ℕ} → Held t edits places counts → countIn t 6 ≤ blockLimit

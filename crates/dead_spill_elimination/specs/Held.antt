@@ -8,14 +8,10 @@ use Rattle.laws.specs.Fold.{run}
 use Rattle.entity.specs.Limits.{editLimit}
 use Rattle.entity.specs.declared.forms.Place.{Place}
 use Rattle.entity.specs.declared.forms.Edit.{Edit}
-use Rattle.rules.specs.Accept.{namedBack, eachBlock, inOrder}
-use Rattle.rules.specs.Function.{edit, slotOf, funcOf}
+use Rattle.rules.specs.{Accept.namedBack, Accept.eachBlock, Accept.inOrder, Function.edit, Function.slotOf, Function.funcOf}
 use Rattle.rules.specs.Sweep.{ends, struck, strikeBlocks}
-use Rattle.table.specs.Layout.{editWidth}
-use Rattle.table.specs.Sheet.{sheetIn}
-use Rattle.table.specs.Index.{Ready}
+use Rattle.table.specs.{Layout.editWidth, Sheet.sheetIn, Index.Ready, Written.EditCells}
 use Rattle.table.specs.Edits.{editIn, editsIn, placeIn, placesIn}
-use Rattle.table.specs.Written.{EditCells}
 use Rattle.dead_spill_elimination.specs.Slots.{Low, LowReads}
 
 -- the rows of the edits, and the places of the operands

@@ -8,15 +8,10 @@ use Rattle.bits.specs.Sets.{has}
 use Rattle.bits.specs.declared.sets.NumberSet.{NumberSet}
 use Rattle.entity.specs.Limits.{slotLimit, blockLimit, instLimit}
 use Rattle.entity.specs.declared.forms.Edit.{Edit}
-use Rattle.rules.specs.Sheet.{isUse}
-use Rattle.rules.specs.Forward.{allDefs}
+use Rattle.rules.specs.{Sheet.isUse, Forward.allDefs, Sweep.withoutAll, Sweep.wantedBefore}
 use Rattle.rules.specs.Function.{Op, edit, slotOf, Target, into, over, target, reads, In}
-use Rattle.rules.specs.Sweep.{withoutAll, wantedBefore}
-use Rattle.table.specs.Layout.{editIndex, instIndex, opIndex}
-use Rattle.table.specs.Sheet.{sheetIn}
-use Rattle.table.specs.View.{opRow}
-use Rattle.table.specs.Edits.{editIn, placeIn}
-use Rattle.table.specs.Index.{rangeIn}
+use Rattle.table.specs.{Layout.editIndex, Layout.instIndex, Layout.opIndex, Sheet.sheetIn, View.opRow}
+use Rattle.table.specs.{Edits.editIn, Edits.placeIn, Index.rangeIn}
 use Rattle.table.specs.declared.index.Range.{Range}
 use Rattle.entity.specs.declared.forms.Place.{Place}
 

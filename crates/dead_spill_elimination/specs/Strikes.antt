@@ -4,19 +4,15 @@ use mathlib.Core.Bool.{cond}
 use mathlib.Core.List.{List, [], map, zip}
 use Prim.Native.Nat.{ℕ, _+_, _*_, _≤_, _<_}
 use lib.ListN.{length, getD}
-use Rattle.laws.specs.Fold.{run}
-use Rattle.laws.specs.Lists.{isIn}
+use Rattle.laws.specs.{Fold.run, Lists.isIn}
 use Rattle.bits.specs.declared.sets.NumberSet.{NumberSet}
 use Rattle.entity.specs.Limits.{blockLimit, instLimit}
 use Rattle.entity.specs.declared.forms.Place.{Place}
-use Rattle.entity.specs.declared.forms.Edit.{Edit}
-use Rattle.entity.specs.declared.forms.Edit.the-variants.{Nothing}
-use Rattle.rules.specs.Sheet.{Sheet, blockCount, instsOf}
-use Rattle.rules.specs.Forward.{editsAt}
+use Rattle.entity.specs.declared.forms.Edit.{Edit, the-variants.Nothing}
+use Rattle.rules.specs.{Sheet.Sheet, Sheet.blockCount, Sheet.instsOf, Forward.editsAt}
 use Rattle.rules.specs.Function.{edit, inst, Item, instOf, look, In}
 use Rattle.rules.specs.Sweep.{wantedBefore, wantedAt, struck, strikeItems, strikeBlocks}
-use Rattle.table.specs.Layout.{editIndex, instIndex, editWidth}
-use Rattle.table.specs.Edits.{editIn, editsIn, withEdit}
+use Rattle.table.specs.{Layout.editIndex, Layout.instIndex, Layout.editWidth, Edits.editIn, Edits.editsIn, Edits.withEdit}
 use Rattle.table.specs.Index.{rangeIn}
 use Rattle.marks.specs.Marks.{applied}
 use Rattle.dead_spill_elimination.specs.Slots.{Same, Low, LowReads, deadIn, numbers, usesAt, instBack}

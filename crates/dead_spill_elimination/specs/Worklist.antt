@@ -1,20 +1,15 @@
 -- The worklist: a word of slots for the end of each block, and a flag for each block that waits.
 use mathlib.Core.Path.{_≡_}
-use mathlib.Core.Logic.{_↔_}
-use mathlib.Core.Bool.{true, cond}
+use mathlib.Core.Bool.{cond}
 use mathlib.Core.List.{List}
 use Prim.Native.Nat.{ℕ, _-_, _^_, _≤_, _<_}
 use lib.Bits.{bitOr}
 use lib.Dec.{eqb}
 use lib.ListN.{length, getD, set}
-use Rattle.laws.specs.Digits.{bit}
-use Rattle.laws.specs.Fold.{run}
-use Rattle.laws.specs.Lists.{isIn}
-use Rattle.rules.specs.Sheet.{predsOf}
+use Rattle.laws.specs.{Digits.bit, Fold.run, Lists.isIn}
+use Rattle.rules.specs.{Sheet.predsOf, Sweep.wantedAt}
 use Rattle.rules.specs.Function.{Func, opsOf, nextOf, In}
-use Rattle.rules.specs.Sweep.{wantedAt}
-use Rattle.table.specs.Sheet.{sheetIn}
-use Rattle.table.specs.Index.{Ready}
+use Rattle.table.specs.{Sheet.sheetIn, Index.Ready}
 use Rattle.dead_spill_elimination.specs.Slots.{blockBack, Lows}
 
 pub record State : Type 0 where

@@ -199,7 +199,6 @@ fn sweep_in(
     requires many { ⌜ length (now ends) ≡ length (now wait) ⌝ }
     requires none { ⌜ ((b : ℕ) → getD (now ends) b 0 ≡ 0) ⌝ }
     requires all { ⌜ ((b : ℕ) → b < length (now wait) → getD (now wait) b 0 ≡ 0 → ⊥) ⌝ }
-    requires rows { ⌜ length (now marks) ≤ editLimit ⌝ }
     requires unmarked { ⌜ ((n : ℕ) → getD (now marks) n 0 ≡ 0) ⌝ }
     ensures { λ _. ⌜ (Held (now (t .entry)) (now (edits .entry)) (now (places .entry)) (now (counts .entry)) → length (now (wait .entry)) ≡ blockCount (sheetIn (now (t .entry)))
         → length (now (marks .entry)) ≡ length (sheetIn (now (t .entry)) .edits)

@@ -7,13 +7,10 @@ use Prim.Native.Nat.{ℕ, _<_}
 use Rattle.laws.specs.Lists.{isIn}
 use Rattle.bits.specs.Sets.{has, setLimit}
 use Rattle.bits.specs.declared.sets.NumberSet.{NumberSet}
-use Rattle.entity.specs.declared.forms.Place.{Place}
-use Rattle.entity.specs.declared.forms.Place.the-variants.{Reg}
-use Rattle.rules.specs.Sheet.{Sheet, OpRow}
-use Rattle.rules.specs.Accept.{operandsAt}
+use Rattle.entity.specs.declared.forms.Place.{Place, the-variants.Reg}
+use Rattle.rules.specs.{Sheet.Sheet, Sheet.OpRow, Accept.operandsAt}
 use Rattle.rules.specs.Forward.{earlyDefs, otherDefs, allDefs, placeUnits}
-use Rattle.definitions.specs.declared.Pass.{Pass}
-use Rattle.definitions.specs.declared.Pass.the-variants.{Early, Other, All}
+use Rattle.definitions.specs.declared.Pass.{Pass, the-variants.Early, the-variants.Other, the-variants.All}
 
 unfoldable pub taken : Sheet → Pass → OpRow → List (ℕ × Place)
 taken sh Early o = earlyDefs sh o

@@ -2,17 +2,14 @@
 use mathlib.Core.Path.{_≡_}
 use mathlib.Core.Bool.{Bool}
 use mathlib.Core.List.{List}
-use mathlib.Core.Option.{Option, none, some, Option·elim}
+use mathlib.Core.Option.{Option, some, Option·elim}
 use Prim.Native.Nat.{ℕ}
 use lib.ListN.{length}
 use Rattle.entity.specs.declared.forms.Level.{Level}
-use Rattle.entity.specs.declared.forms.Refusal.{Refusal}
-use Rattle.entity.specs.declared.forms.Refusal.the-variants.{Rows}
-use Rattle.rules.specs.Rows.{rowsOf}
-use Rattle.rules.specs.Sheet.{sheetOf}
+use Rattle.entity.specs.declared.forms.Refusal.{Refusal, the-variants.Rows}
+use Rattle.rules.specs.{Rows.rowsOf, Sheet.sheetOf}
 use Rattle.rules.specs.Answer.{Answer, refused, written, firstRefusal, checks, checked, buffer}
-use Rattle.table.specs.Sheet.{sheetIn}
-use Rattle.table.specs.Index.{Ready}
+use Rattle.table.specs.{Sheet.sheetIn, Index.Ready}
 use Rattle.drifthurdle.specs.declared.Outcome.{Outcome}
 use Rattle.drifthurdle.specs.declared.Outcome.the-variants as Outcome
 

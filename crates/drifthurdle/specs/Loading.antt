@@ -5,11 +5,8 @@ use mathlib.Core.List.{List}
 use Prim.Native.Nat.{ℕ, _<_}
 use lib.ListN.{getD}
 use Rattle.entity.specs.declared.forms.Edit.{Edit}
-use Rattle.rules.specs.Accept.{placed}
-use Rattle.rules.specs.Sheet.{field}
-use Rattle.table.specs.Rows.{kindRow}
-use Rattle.table.specs.Edits.{editIn, editAtRow, SmallEdit}
-use Rattle.table.specs.Written.{SmallValue, EditCells}
+use Rattle.rules.specs.{Accept.placed, Sheet.field}
+use Rattle.table.specs.{Rows.kindRow, Edits.editIn, Edits.editAtRow, Edits.SmallEdit, Written.SmallValue, Written.EditCells}
 
 -- an edit whose cells are read back as they were
 pub record Storable (e : Edit) : Type 0 where

@@ -8,10 +8,7 @@ use Rattle.entity.specs.declared.forms.Place.{Place}
 use Rattle.entity.specs.declared.forms.Edit.{Edit}
 use Rattle.entity.specs.declared.forms.Level.{Level}
 use Rattle.entity.specs.declared.forms.FoundLevel.the-variants as Found
-use Rattle.rules.specs.Rows.{rowsOf}
-use Rattle.rules.specs.Sheet.{Sheet, sheetOf}
-use Rattle.rules.specs.Function.{funcOf}
-use Rattle.rules.specs.Answer.{written, output, answer}
+use Rattle.rules.specs.{Rows.rowsOf, Sheet.Sheet, Sheet.sheetOf, Function.funcOf, Answer.written, Answer.output, Answer.answer}
 use Rattle.run.specs.Swept.{optimised, final, foldedPlaces, editsBefore, editsAfter}
 use Rattle.run.specs.Theorem.{RunsAgree, ExactEdits}
 

@@ -2,12 +2,9 @@
 use Prim.Native.Nat.{ℕ, _+_, _*_}
 use lib.Dec.{eqb}
 use Rattle.laws.specs.Choice.{pick}
-use Rattle.entity.specs.declared.forms.Level.{Level}
-use Rattle.entity.specs.declared.forms.Level.the-variants.{Off, Local, Forward, Global}
-use Rattle.entity.specs.declared.forms.FoundLevel.{FoundLevel}
-use Rattle.entity.specs.declared.forms.FoundLevel.the-variants.{At, Nothing}
-use Rattle.entity.specs.declared.forms.Refusal.{Refusal}
-use Rattle.entity.specs.declared.forms.Refusal.the-variants.{Rows, Limits, Names, NoEntry, Empty, Disagree, Edges, NotSmaller, NotReached, Operands, Edits, Call, Room}
+use Rattle.entity.specs.declared.forms.Level.{Level, the-variants.Off, the-variants.Local, the-variants.Forward, the-variants.Global}
+use Rattle.entity.specs.declared.forms.FoundLevel.{FoundLevel, the-variants.At, the-variants.Nothing}
+use Rattle.entity.specs.declared.forms.Refusal.{Refusal, the-variants.Rows, the-variants.Limits, the-variants.Names, the-variants.NoEntry, the-variants.Empty, the-variants.Disagree, the-variants.Edges, the-variants.NotSmaller, the-variants.NotReached, the-variants.Operands, the-variants.Edits, the-variants.Call, the-variants.Room}
 use Rattle.entity.specs.declared.forms.Told.{Told}
 
 -- "Levels: 0 `Off`, 1 per block (each block starts with nothing known), 2 `Forward`, 3 `Global`."

@@ -5,8 +5,7 @@ use Prim.Native.Nat.{ℕ, _-_}
 use lib.Dec.{eqb}
 use Rattle.laws.specs.Lists.{any, from}
 use Rattle.bits.specs.Sets.{setOf}
-use Rattle.entity.specs.declared.forms.Constraint.{Constraint}
-use Rattle.entity.specs.declared.forms.Constraint.the-variants.{Class, Fixed, Reuse}
+use Rattle.entity.specs.declared.forms.Constraint.{Constraint, the-variants.Class, the-variants.Fixed, the-variants.Reuse}
 use Rattle.rules.specs.Sheet.{Sheet, OpRow, isUse, isEarly}
 use Rattle.rules.specs.Forward.{inMemory}
 use Rattle.table.specs.View.{opRow}

@@ -4,11 +4,9 @@ use mathlib.Core.List.{List}
 use Prim.Native.Nat.{ℕ, _+_, _-_, _%_}
 use lib.Dec.{ltb}
 use lib.ListN.{getD, take, drop}
-use Rattle.table.specs.Layout.{rowStarts}
-use Rattle.table.specs.Rows.{firstIn}
+use Rattle.table.specs.{Layout.rowStarts, Rows.firstIn}
 use Rattle.table.specs.declared.index.Range.{Range}
-use Rattle.graph.specs.declared.Direction.{Direction}
-use Rattle.graph.specs.declared.Direction.the-variants.{Successors, Predecessors}
+use Rattle.graph.specs.declared.Direction.{Direction, the-variants.Successors, the-variants.Predecessors}
 
 -- the one of two that a direction chooses
 unfoldable pub chosen : {A : Type 0} → Direction → A → A → A

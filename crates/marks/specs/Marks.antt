@@ -7,8 +7,7 @@ use lib.Dec.{eqb}
 use lib.ListN.{length, getD, set}
 use Rattle.entity.specs.Limits.{editLimit}
 use Rattle.entity.specs.declared.forms.Edit.the-variants.{Nothing}
-use Rattle.rules.specs.Words.{noneWord}
-use Rattle.rules.specs.Cells.{numberLimit}
+use Rattle.rules.specs.{Words.noneWord, Cells.numberLimit}
 use Rattle.table.specs.Edits.{withEdit}
 use Rattle.marks.specs.declared.EditRecord.{EditRecord}
 

@@ -2,7 +2,7 @@
 // here the cells of the edits become a list, the list is lent to the function that strikes what is marked, and its records go back to the cells.
 ghost use mathlib.Core.Path.{_≡_};
 ghost use Prim.Native.Nat.{_≤_};
-ghost use lib.ListN.{length};
+ghost use lib.ListN.{length, take};
 ghost use Rattle.entity.specs.Limits.{editLimit};
 ghost use Rattle.marks.specs.Marks.{noneRecord, struckAt, struckBy, recordIn, Lists, withRecord, withRecords, applied};
 use bits::tables::read_u32;
@@ -113,7 +113,7 @@ fn lay_out(edits: &mut [u32], list: [EditRecord; ROWS], rows: usize)
 }
 
 // The cells, in which the marked rows are struck.
-pub fn mark_cells(edits: &mut [u32], marks: &[u8])
+fn mark_rows(edits: &mut [u32], marks: &[u8])
     requires { ⌜ length (now marks) ≤ editLimit ⌝ }
     ensures { λ _. ⌜ now (edits .exit) ≡ applied (now (edits .entry)) (now (marks .entry)) ⌝ }
 {
@@ -121,4 +121,22 @@ pub fn mark_cells(edits: &mut [u32], marks: &[u8])
     let list = listed(edits, rows);
     let struck = marked(list, marks);
     lay_out(edits, struck, rows);
+}
+
+// The marks, of which there are no more than edits.
+fn within(marks: &[u8]) -> &[u8]
+    ensures { λ r. ⌜ now r ≡ take editLimit (now (marks .entry)) ⌝ }
+{
+    if marks.len() <= ROWS {
+        marks
+    } else {
+        &marks[..ROWS]
+    }
+}
+
+// The cells, in which the rows are struck that the first 1,024 marks name.
+pub fn mark_cells(edits: &mut [u32], marks: &[u8])
+    ensures { λ _. ⌜ now (edits .exit) ≡ applied (now (edits .entry)) (take editLimit (now (marks .entry))) ⌝ }
+{
+    mark_rows(edits, within(marks));
 }

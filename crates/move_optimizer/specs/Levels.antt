@@ -3,8 +3,7 @@ use mathlib.Core.Path.{_≡_}
 use mathlib.Core.List.{List}
 use Prim.Native.Nat.{ℕ}
 use Rattle.bits.specs.declared.sets.NumberSet.{NumberSet}
-use Rattle.rules.specs.Sheet.{blockCount}
-use Rattle.rules.specs.Forward.{Walk, Handed}
+use Rattle.rules.specs.{Sheet.blockCount, Forward.Walk, Forward.Handed}
 use Rattle.table.specs.Sheet.{sheetIn}
 use Rattle.states.specs.States.{Roomy, statesIn, Lies}
 use Rattle.moves.specs.Walks.{Walked}

@@ -4,20 +4,15 @@ use mathlib.Core.Bool.{cond, _||_}
 use mathlib.Core.Option.{Option, none, some, Option·elim}
 use Prim.Native.Nat.{ℕ, _<_}
 use lib.ListN.{set}
-use Rattle.entity.specs.declared.forms.Place.{Place}
-use Rattle.entity.specs.declared.forms.Place.the-variants.{Reg}
-use Rattle.entity.specs.declared.forms.Edit.{Edit}
-use Rattle.entity.specs.declared.forms.Edit.the-variants.{Move, Remat, Nothing}
-use Rattle.rules.specs.Cells.{numberLimit}
-use Rattle.rules.specs.Sheet.{Sheet}
-use Rattle.rules.specs.Record.{Record, arrive}
+use Rattle.entity.specs.declared.forms.Place.{Place, the-variants.Reg}
+use Rattle.entity.specs.declared.forms.Edit.{Edit, the-variants.Move, the-variants.Remat, the-variants.Nothing}
+use Rattle.rules.specs.{Cells.numberLimit, Sheet.Sheet, Record.Record, Record.arrive}
 use Rattle.rules.specs.Forward.{Walk, reloadToMove, count, already, spilledAbove, noteSpill, removal, newSource}
 use Rattle.table.specs.Edits.{SmallPlace}
 use Rattle.moves.specs.declared.Source.{Source}
 use Rattle.moves.specs.declared.Source.the-variants as Source
 use Rattle.moves.specs.declared.Arrival.{Arrival}
-use Rattle.moves.specs.declared.Fate.{Fate}
-use Rattle.moves.specs.declared.Fate.the-variants.{Kept, Removed, Sourced}
+use Rattle.moves.specs.declared.Fate.{Fate, the-variants.Kept, the-variants.Removed, the-variants.Sourced}
 
 -- where a move comes from
 unfoldable pub sourceOf : Source → Option Place

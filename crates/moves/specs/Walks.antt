@@ -5,19 +5,12 @@ use mathlib.Core.List.{List}
 use Prim.Native.Nat.{ℕ, _+_, _*_, _≤_, _<_}
 use lib.Dec.{eqb}
 use lib.ListN.{length, getD}
-use Rattle.laws.specs.Fold.{run}
-use Rattle.laws.specs.Lists.{keep}
+use Rattle.laws.specs.{Fold.run, Lists.keep}
 use Rattle.entity.specs.Limits.{slotLimit, regLimit, blockLimit, instLimit, operandLimit, editLimit}
-use Rattle.entity.specs.declared.forms.Edit.{Edit}
-use Rattle.entity.specs.declared.forms.Edit.the-variants.{Nothing}
-use Rattle.rules.specs.Sheet.{Sheet, instsOf}
-use Rattle.rules.specs.Accept.{inOrder}
-use Rattle.rules.specs.Record.{Record, define, effect}
+use Rattle.entity.specs.declared.forms.Edit.{Edit, the-variants.Nothing}
+use Rattle.rules.specs.{Sheet.Sheet, Sheet.instsOf, Accept.inOrder, Record.Record, Record.define, Record.effect}
 use Rattle.rules.specs.Forward.{Walk, withRec, editsAt, optimiseEdit, optimiseInst, prepareInst}
-use Rattle.table.specs.Layout.{editWidth}
-use Rattle.table.specs.Sheet.{sheetIn}
-use Rattle.table.specs.Index.{Ready}
-use Rattle.table.specs.Written.{InCells}
+use Rattle.table.specs.{Layout.editWidth, Sheet.sheetIn, Index.Ready, Written.InCells}
 use Rattle.record.specs.Flat.{recordIn, Long}
 use Rattle.holders.specs.Holders.{Filled}
 

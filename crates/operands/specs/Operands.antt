@@ -1,8 +1,7 @@
 -- What is asked of an operand: the operand as a row, and what is found as the code's answers.
 use mathlib.Core.Option.{Option, none, some, bind}
 use Prim.Native.Nat.{ℕ}
-use Rattle.rules.specs.Sheet.{Sheet, OpRow}
-use Rattle.rules.specs.Accept.{operand, classOf}
+use Rattle.rules.specs.{Sheet.Sheet, Sheet.OpRow, Accept.operand, Accept.classOf}
 use Rattle.table.specs.declared.view.Operand.{Operand}
 use Rattle.table.specs.View.{operandOf}
 use Rattle.operands.specs.declared.FoundOperand.{FoundOperand}

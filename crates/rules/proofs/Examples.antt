@@ -5,7 +5,8 @@ use mathlib.Core.List.{List, [], _∷_}
 use Prim.Native.Nat.{ℕ}
 use native.Mathlib.Decide.{ℕ-discrete}
 use native.Mathlib.Omega.{arith}
-use Rattle.rules.specs.Computing.{computing}
+use Rattle.rules.proofs.Computing.{computing}
+use Rattle.rules.specs.Brought.{used}
 use Rattle.rules.specs.Function.{In, reads, stop, next}
 use Rattle.rules.specs.Model.{upd, fill, wash, writeAll, wordOf, Step, steps, Agree, done, each}
 use Rattle.rules.specs.Examples.{first, other, Examples}
@@ -34,7 +35,7 @@ examples =
       both-removed = refl;
       both-kept = refl;
       spill-stays = refl;
-      round = (1 ∷ [], next (inl refl) stop, inl (inl refl));
+      round = (1 ∷ [], next (inl refl) stop, inl (used (inl refl)));
       stored = refl;
       ran = refl;
       from-sheet = (refl, refl);

@@ -1,3 +1,5 @@
+pub mod Computing
+pub mod Words
 pub mod Digits
 pub mod Sheets
 pub mod Worked

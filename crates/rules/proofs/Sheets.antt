@@ -5,6 +5,7 @@ use mathlib.Core.Bool.{cond}
 use mathlib.Core.List.{List, flatMap}
 use mathlib.Core.Option.{Option, none, some, bind}
 use lib.ListN.{length}
+use Rattle.laws.specs.Lists.{from}
 use borrow.Author.Tests.{le-leb, lt-leb}
 use Rattle.rules.proofs.Digits.{digits-of}
 use Rattle.rules.specs.Words.{Named}
@@ -23,7 +24,7 @@ pub rows-read : RowsRead
 unfolding reading sheet isSome flatMap
 rows-read = record { answers = refl; worked = (refl, refl); cells = (refl, refl); digits = digits-of; at-most = at-most; over = over }
 
--- each mark and each word, by its name
+-- each word by its place, each mark and each word by its name
 pub named : Named
-unfolding reading
-named = record { by-word = refl; by-mark = refl }
+unfolding reading from
+named = record { by-place = refl; by-word = refl; by-mark = refl }

@@ -1,7 +1,7 @@
 -- The worked sheets, by computing.
 use mathlib.Core.Path.{_≡_, refl}
 use mathlib.Core.List.{flatMap}
-use Rattle.rules.specs.Computing.{computing}
+use Rattle.rules.proofs.Computing.{computing}
 use Rattle.rules.specs.Readings.{Readings}
 use Rattle.rules.specs.Worked.{lines, WorkedSheet}
 

@@ -9,15 +9,7 @@ use lib.ListN.{length, getD}
 use Rattle.laws.specs.First.{first}
 use Rattle.laws.specs.Lists.{all, any, keep, isIn, twice, from}
 use Rattle.entity.specs.Limits.{slotLimit, regLimit, unitLimit, classLimit, groupLimit, valueLimit, valueGroupLimit, blockLimit, instLimit, operandLimit, editLimit, reuseLimit}
-use Rattle.entity.specs.declared.forms.Place.{Place}
-use Rattle.entity.specs.declared.forms.Place.the-variants.{Reg, Slot}
-use Rattle.entity.specs.declared.forms.Constraint.{Constraint}
-use Rattle.entity.specs.declared.forms.Constraint.the-variants.{Class, Fixed, Reuse}
-use Rattle.entity.specs.declared.forms.OperandKind.{OperandKind}
-use Rattle.entity.specs.declared.forms.OperandKind.the-variants.{Def, Use, EarlyDef, DefGroup, UseGroup, EarlyDefGroup, NonAllocatable}
-use Rattle.entity.specs.declared.forms.Edit.{Edit}
-use Rattle.entity.specs.declared.forms.Edit.the-variants.{Move, Remat, Espill, Ereload, Misplaced, Nothing}
-use Rattle.rules.specs.Sheet.{Sheet, RegRow, ClassRow, GroupRow, BlockRow, ListRow, ParamRow, OpRow, EditRow, regCount, blockCount, instCount, regRow, classRow, blockRow, homeOf, valuesOf, unitsOf, succsOf, predsOf, instsOf, isUse, isUseGroup}
+use Rattle.rules.specs.Sheet.{Place, Reg, Slot, Constraint, Class, Fixed, Reuse, OperandKind, Def, Use, EarlyDef, DefGroup, UseGroup, EarlyDefGroup, NonAllocatable, Edit, Move, Remat, Espill, Ereload, Misplaced, Nothing, Sheet, GroupRow, OpRow, EditRow, regCount, blockCount, instCount, classRow, blockRow, valuesOf, unitsOf, succsOf, predsOf, instsOf, isUse, isUseGroup}
 
 -- ---- 2
 
@@ -26,9 +18,7 @@ unfoldable pub unitsWithin : List ℕ → Bool
 unitsWithin us = all (λ u. ltb u unitLimit) us
 
 unfoldable pub reuseWithin : Constraint → Bool
-reuseWithin (Class c) = true
-reuseWithin (Fixed r) = true
-reuseWithin (Reuse k) = ltb (k .0) reuseLimit
+reuseWithin c = elim c [ Reuse k ↦ ltb (k .0) reuseLimit | Class c ↦ true | Fixed r ↦ true ]
 
 -- "Limits: 64 slots, 128 registers, 128 units, 16 classes, 32 register groups, 256 values, 32 value groups, 64 blocks, 512 instructions,
 -- 2,048 operands, 1,024 edits." More than 128 units need one over 127.
@@ -246,9 +236,7 @@ module _ (sh : Sheet) where
 
   -- the class of a class constraint
   unfoldable pub classOf : Constraint → Option ℕ
-  classOf (Class c) = some (c .0)
-  classOf (Fixed r) = none
-  classOf (Reuse k) = none
+  classOf c = elim c [ Class c ↦ some (c .0) | Fixed r ↦ none | Reuse k ↦ none ]
 
   -- the class of an operand: for a reuse, the reused operand's
   unfoldable pub classFor : OpRow → Option ℕ
@@ -296,12 +284,7 @@ inOrder (e ∷ es) = all (λ f. leb (e .at) (f .at)) es && inOrder es
 
 -- "`espill` not register to slot, `ereload` not slot to register"
 unfoldable pub placed : Edit → Bool
-placed (Move to p v) = true
-placed (Remat to v) = true
-placed (Espill s r) = true
-placed (Ereload r s) = true
-placed (Misplaced to p) = false
-placed Nothing = true
+placed e = elim e [ Misplaced to p ↦ false | Move to p v ↦ true | Remat to v ↦ true | Espill s r ↦ true | Ereload r s ↦ true | Nothing ↦ true ]
 
 -- "within a block these not alternating as pairs of one slot and one register, spill first, each closed": `open′` is the spill not yet closed
 unfoldable pub paired : Option (ℕ × ℕ) → List Edit → Bool
@@ -330,12 +313,8 @@ module _ (sh : Sheet) where
   apart r = all (λ q. eqb q r || not (any (λ u. isIn u (unitsOf sh q)) (unitsOf sh r))) (from 0 (regCount sh))
 
   unfoldable pub pairHolds : Edit → Bool
-  pairHolds (Espill s r) = noHome (s .0) && apart (r .0)
-  pairHolds (Ereload r s) = noHome (s .0) && apart (r .0)
-  pairHolds (Move to p v) = true
-  pairHolds (Remat to v) = true
-  pairHolds (Misplaced to p) = true
-  pairHolds Nothing = true
+  pairHolds e =
+      elim e [ Espill s r ↦ noHome (s .0) && apart (r .0) | Ereload r s ↦ noHome (s .0) && apart (r .0) | Move to p v ↦ true | Remat to v ↦ true | Misplaced to p ↦ true | Nothing ↦ true ]
 
   unfoldable pub editsHold : Bool
   editsHold =

@@ -1,30 +1,22 @@
 -- Document 01, "The call", with the finer refusals of document 02, request 1: the answer for every sheet, level, sweep flag and length of the output buffer.
-use mathlib.Core.Bool.{Bool, true, false, cond, not, _&&_, _||_}
-use mathlib.Core.List.{List, [], _∷_, _++_, map, flatMap, zip, zipWith}
+use mathlib.Core.Bool.{Bool, true, false, cond}
+use mathlib.Core.List.{List, [], _∷_, _++_, map, flatMap, zip}
 use mathlib.Core.Option.{Option, none, some, Option·elim}
 use Prim.Native.Nat.{ℕ, _+_}
-use lib.Dec.{leb, ltb, eqb}
+use lib.Dec.{leb, eqb}
 use lib.ListN.{length, getD, drop}
-use Rattle.laws.specs.Choice.{pick}
-use Rattle.laws.specs.Lists.{keep, from}
+use Rattle.laws.specs.Lists.{from}
 use lib.IntN.{ℤ, pos, negℤ}
 use Rattle.entity.specs.Forms.{levelOf, sumOf}
-use Rattle.entity.specs.declared.forms.Place.{Place}
-use Rattle.entity.specs.declared.forms.Place.the-variants.{Reg, Slot}
-use Rattle.entity.specs.declared.forms.Edit.{Edit}
-use Rattle.entity.specs.declared.forms.Edit.the-variants.{Move, Remat, Espill, Ereload, Misplaced, Nothing}
 use Rattle.entity.specs.declared.forms.Level.{Level}
-use Rattle.entity.specs.declared.forms.FoundLevel.{FoundLevel}
 use Rattle.entity.specs.declared.forms.FoundLevel.the-variants as Found
 use Rattle.entity.specs.declared.forms.Refusal.{Refusal}
 use Rattle.entity.specs.declared.forms.Refusal.the-variants.{Rows, Limits, Names, NoEntry, Empty, Disagree, Edges, NotSmaller, NotReached, Operands, Edits, Call, Room}
 use Rattle.rules.specs.Cells.{word, digitsOf, fieldOf, regMark, slotMark}
-use Rattle.rules.specs.Text.{bytes}
-use Rattle.rules.specs.Rows.{rowsOf, lineOf, rowText}
-use Rattle.rules.specs.Sheet.{Sheet, OpRow, EditRow, sheetOf, instCount}
+use Rattle.rules.specs.{Text.bytes, Rows.rowsOf, Rows.lineOf, Rows.rowText, Sweep.sweep}
+use Rattle.rules.specs.Sheet.{Place, Reg, Slot, Edit, Move, Remat, Espill, Ereload, Misplaced, Nothing, Sheet, OpRow, sheetOf, instCount}
 use Rattle.rules.specs.Accept.{withinLimits, namesHold, someEntry, filled, namedBack, edgesHold, smallerHold, isReached, eachBlock, lowestNot, rowOf, operandsHold, editsHold, samePlace}
 use Rattle.rules.specs.Forward.{Walk, indexed, optimise, start}
-use Rattle.rules.specs.Sweep.{sweep}
 
 -- the cell of a place
 unfoldable pub placeCell : Place → ℕ

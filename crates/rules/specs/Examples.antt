@@ -5,17 +5,9 @@ use mathlib.Core.List.{List, [], _∷_, flatMap}
 use mathlib.Core.Option.{none, some}
 use Prim.Native.Nat.{ℕ, _+_, _*_}
 use native.Mathlib.Decide.{ℕ-discrete}
-use Rattle.entity.specs.declared.forms.Place.{Place}
-use Rattle.entity.specs.declared.forms.Place.the-variants.{Reg, Slot}
-use Rattle.entity.specs.declared.forms.Constraint.the-variants.{Class}
-use Rattle.entity.specs.declared.forms.OperandKind.the-variants.{Def, Use}
-use Rattle.entity.specs.declared.forms.Edit.{Edit}
-use Rattle.entity.specs.declared.forms.Edit.the-variants.{Move, Remat, Espill, Ereload, Misplaced, Nothing}
-use Rattle.rules.specs.Sheet.{Sheet, OpRow, ListRow}
-use Rattle.rules.specs.Forward.{start}
+use Rattle.rules.specs.Sheet.{Place, Reg, Slot, Class, Def, Use, Edit, Move, Remat, Espill, Ereload, Misplaced, Nothing, Sheet, OpRow, ListRow}
+use Rattle.rules.specs.{Forward.start, Sweep.sweep, Brought.BroughtOn}
 use Rattle.rules.specs.Function.{Op, edit, inst, Func, opsOf, funcOf}
-use Rattle.rules.specs.Sweep.{sweep}
-use Rattle.rules.specs.Brought.{BroughtOn}
 use Rattle.rules.specs.Model.{State, Machine, choose, upd, step, steps, Agree}
 
 -- C1's sheet with two slots, these operands and clobbers, and two edits at instruction 1

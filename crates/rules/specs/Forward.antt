@@ -5,21 +5,13 @@ use mathlib.Core.Option.{Option, none, some, Option·elim, Option·getD}
 use Prim.Native.Nat.{ℕ, zero, suc, _+_, _*_}
 use lib.Dec.{eqb, leb, ltb}
 use lib.ListN.{length, getD, set, replicate}
-use Rattle.laws.specs.First.{first}
-use Rattle.laws.specs.Fold.{run}
-use Rattle.laws.specs.Lists.{all, any, keep, isIn, from}
+use Rattle.laws.specs.{First.first, Fold.run}
+use Rattle.laws.specs.Lists.{any, keep, isIn, from}
 use Rattle.entity.specs.Limits.{slotLimit, regLimit}
-use Rattle.entity.specs.declared.forms.Place.{Place}
-use Rattle.entity.specs.declared.forms.Place.the-variants.{Reg, Slot}
-use Rattle.entity.specs.declared.forms.Constraint.{Constraint}
-use Rattle.entity.specs.declared.forms.Constraint.the-variants.{Class, Fixed, Reuse}
-use Rattle.entity.specs.declared.forms.OperandKind.the-variants.{Def, Use, EarlyDef, DefGroup, UseGroup, EarlyDefGroup, NonAllocatable}
-use Rattle.entity.specs.declared.forms.Edit.{Edit}
-use Rattle.entity.specs.declared.forms.Edit.the-variants.{Move, Remat, Espill, Ereload, Misplaced, Nothing}
 use Rattle.entity.specs.declared.forms.Level.{Level}
 use Rattle.entity.specs.declared.forms.Level.the-variants.{Off, Local, Forward, Global}
 use Rattle.rules.specs.Text.{same}
-use Rattle.rules.specs.Sheet.{Sheet, OpRow, ParamRow, EditRow, GroupRow, regCount, blockCount, blockRow, classRow, valuesOf, unitsOf, isMemory, succsOf, predsOf, clobbersOf, instsOf, isUse, isEarly, subjectOf}
+use Rattle.rules.specs.Sheet.{Place, Reg, Slot, Class, Fixed, Reuse, Def, Use, EarlyDef, DefGroup, UseGroup, EarlyDefGroup, NonAllocatable, Edit, Move, Remat, Espill, Ereload, Misplaced, Nothing, Sheet, OpRow, EditRow, regCount, blockCount, blockRow, classRow, valuesOf, unitsOf, isMemory, succsOf, predsOf, clobbersOf, instsOf, isUse, isEarly, subjectOf}
 use Rattle.rules.specs.Accept.{isEntry, headedBy, classFor, operandsAt}
 use Rattle.rules.specs.Record.{Record, Known, absent, nothing, fresh, begins, writeUnit, spillIn, holds, forgetUnit, isHome, define, effect}
 

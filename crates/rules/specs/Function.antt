@@ -1,15 +1,11 @@
 -- A function as the sweep and the model of a run see it: blocks of operations, and each block's successors.
 use mathlib.Core.Path.{_≡_}
 use mathlib.Core.Logic.{_⊎_}
-use mathlib.Core.Bool.{Bool, true, false, cond, _&&_}
+use mathlib.Core.Bool.{cond}
 use mathlib.Core.List.{List, [], _∷_, _++_, map, flatMap}
 use Prim.Native.Nat.{ℕ}
 use lib.ListN.{getD, drop}
-use Rattle.entity.specs.declared.forms.Place.{Place}
-use Rattle.entity.specs.declared.forms.Place.the-variants.{Reg, Slot}
-use Rattle.entity.specs.declared.forms.Edit.{Edit}
-use Rattle.entity.specs.declared.forms.Edit.the-variants.{Move, Remat, Espill, Ereload, Misplaced, Nothing}
-use Rattle.rules.specs.Sheet.{Sheet, OpRow, BlockRow, blockCount, succsOf, clobbersOf, instsOf, instsFrom, isUse}
+use Rattle.rules.specs.Sheet.{Place, Reg, Slot, Edit, Move, Remat, Espill, Ereload, Misplaced, Nothing, Sheet, OpRow, succsOf, clobbersOf, instsOf, isUse}
 use Rattle.rules.specs.Accept.{operandsAt}
 use Rattle.rules.specs.Forward.{indexed, allDefs, editsAt, blocks}
 

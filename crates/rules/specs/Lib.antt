@@ -11,7 +11,6 @@ pub mod Sweep
 pub mod Brought
 pub mod Model
 pub mod Answer
-pub mod Computing
 pub mod Worked
 pub mod Readings
 pub mod Sheets

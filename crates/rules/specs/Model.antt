@@ -3,9 +3,7 @@ use mathlib.Core.Path.{_≡_}
 use mathlib.Core.List.{List, [], _∷_, map}
 use Prim.Native.Nat.{ℕ, suc}
 use native.Mathlib.Decide.{ℕ-discrete}
-use Rattle.entity.specs.declared.forms.Place.{Place}
-use Rattle.entity.specs.declared.forms.Place.the-variants.{Reg, Slot}
-use Rattle.entity.specs.declared.forms.Edit.the-variants.{Move, Remat, Espill, Ereload, Misplaced, Nothing}
+use Rattle.rules.specs.Sheet.{Place, Reg, Slot, Move, Remat, Espill, Ereload, Misplaced, Nothing}
 use Rattle.rules.specs.Function.{Inst, Op, edit, inst, In, reads}
 
 -- the word of each unit and the words of each slot, and how many instructions have run

@@ -137,47 +137,39 @@ readings =
     ∷ []
 
 -- Document 02, request 1: a sheet, the length of the output buffer, and "100 times the row plus the number"
-pub record Told : Type 0 where
-  pub sheet : String
-  pub room : ℕ
-  pub sum : ℕ
-
-abbrev pub told : String → ℕ → ℕ → Told
-told t n sum = record { sheet = t; room = n; sum = sum }
-
-abbrev pub rows : List Told
+abbrev pub rows : List (String × ℕ × ℕ)
 rows =
-    told "slots,0/" 65536 4  -- R1.1
-    ∷ told "slots,0/block,0,1,-,0/" 65536 4  -- R1.2
-    ∷ told "slots,0/block,0,1,-,0/block,1,0,-,0/" 65536 4  -- R1.3
-    ∷ told "slots,0/block,0,0,-,1/" 65536 204  -- R1.4
-    ∷ told "slots,1/reg,0,0,0/class,0,1,0/value,0,0/block,0,1,-,1/block,1,0,-,1/" 65536 604  -- R1.5
-    ∷ told "slots,0/block,0,1,-,1/block,1,0,-,1/block,2,0,-,1/" 65536 304  -- R1.6
-    ∷ told "slots,0/block,0,1,-,1/block,1,1,-,1/succ,0,1/" 65536 209  -- R1.7
-    ∷ told "slots,0/block,0,1,-,1/block,1,1,-,1/pred,1,0/" 65536 309  -- R1.8
-    ∷ told "slots,0/block,0,1,-,1/block,1,1,-,1/block,2,1,-,1/succ,2,0/pred,1,0/" 65536 309  -- R1.9
-    ∷ told "slots,0/block,0,1,-,1/block,1,1,-,1/succ,0,1/succ,1,0/" 65536 209  -- R1.10
-    ∷ told "slots,0/block,0,1,-,1/succ,0,0/" 65536 209  -- R1.11
-    ∷ told "slots,0/block,0,1,-,1/block,1,1,-,1/block,2,0,-,1/succ,0,1/" 65536 404  -- R1.12
-    ∷ told "slots,0/block,0,1,-,1/block,1,1,-,1/succ,0,1/pred,1,0/" 65536 310  -- R1.13
-    ∷ told "slots,0/block,0,1,-,1/block,1,1,-,0/block,2,1,-,1/block,3,1,-,0/succ,0,1/succ,2,1,3/pred,1,0,2/pred,3,2/" 65536 410  -- R1.14
-    ∷ told "slots,0/block,0,1,-,1/block,1,1,-,1/block,2,1,-,0/succ,0,1,2/succ,1,2/pred,1,0/pred,2,0,1/" 65536 210  -- R1.15
-    ∷ told "slots,0/block,0,1,-,1/block,1,1,-,1/block,2,1,-,1/succ,0,0/succ,1,2/pred,0,0/" 65536 309  -- R1.16
-    ∷ told "slots,0/block,0,1,-,1/block,1,1,-,0/block,2,1,-,0/succ,0,2/succ,2,1/pred,1,2/pred,2,0/" 65536 311  -- R1.17
-    ∷ told "slots,0/block,0,1,0,1/" 65536 211  -- R1.18
-    ∷ told "slots,0/block,0,1,-,1/block,1,1,1,1/block,2,1,-,0/block,3,1,-,0/succ,0,3/succ,3,2/pred,2,3/pred,3,0/" 65536 311  -- R1.19
-    ∷ told "slots,0/block,0,1,0,1/block,1,1,-,1/succ,0,1/pred,1,0/" 65536 310  -- R1.20
-    ∷ told "slots,0/block,0,1,-,1/block,1,1,-,0/block,2,1,-,0/" 65536 312  -- R1.21
-    ∷ told "slots,0/block,0,1,-,1/block,1,1,-,0/block,2,1,2,1/" 65536 411  -- R1.22
-    ∷ told "slots,0/block,0,0,1,1/" 65536 3  -- R1.23
-    ∷ told "slots,0/reg,0,0,0/class,0,0/value,0,-/block,0,1,-,1/block,1,1,-,0/op,0,use,0,c0,r0/" 65536 612  -- R1.24
-    ∷ told "slots,0/reg,0,0,0/class,0,0/value,0,-/block,0,1,-,1/op,0,use,0,c0,r0/" 65536 5  -- R1.25
-    ∷ told "slots,0/block,0,1,-,1/" 0 8  -- R1.26
+    ("slots,0/", 65536, 4)  -- R1.1
+    ∷ ("slots,0/block,0,1,-,0/", 65536, 4)  -- R1.2
+    ∷ ("slots,0/block,0,1,-,0/block,1,0,-,0/", 65536, 4)  -- R1.3
+    ∷ ("slots,0/block,0,0,-,1/", 65536, 204)  -- R1.4
+    ∷ ("slots,1/reg,0,0,0/class,0,1,0/value,0,0/block,0,1,-,1/block,1,0,-,1/", 65536, 604)  -- R1.5
+    ∷ ("slots,0/block,0,1,-,1/block,1,0,-,1/block,2,0,-,1/", 65536, 304)  -- R1.6
+    ∷ ("slots,0/block,0,1,-,1/block,1,1,-,1/succ,0,1/", 65536, 209)  -- R1.7
+    ∷ ("slots,0/block,0,1,-,1/block,1,1,-,1/pred,1,0/", 65536, 309)  -- R1.8
+    ∷ ("slots,0/block,0,1,-,1/block,1,1,-,1/block,2,1,-,1/succ,2,0/pred,1,0/", 65536, 309)  -- R1.9
+    ∷ ("slots,0/block,0,1,-,1/block,1,1,-,1/succ,0,1/succ,1,0/", 65536, 209)  -- R1.10
+    ∷ ("slots,0/block,0,1,-,1/succ,0,0/", 65536, 209)  -- R1.11
+    ∷ ("slots,0/block,0,1,-,1/block,1,1,-,1/block,2,0,-,1/succ,0,1/", 65536, 404)  -- R1.12
+    ∷ ("slots,0/block,0,1,-,1/block,1,1,-,1/succ,0,1/pred,1,0/", 65536, 310)  -- R1.13
+    ∷ ("slots,0/block,0,1,-,1/block,1,1,-,0/block,2,1,-,1/block,3,1,-,0/succ,0,1/succ,2,1,3/pred,1,0,2/pred,3,2/", 65536, 410)  -- R1.14
+    ∷ ("slots,0/block,0,1,-,1/block,1,1,-,1/block,2,1,-,0/succ,0,1,2/succ,1,2/pred,1,0/pred,2,0,1/", 65536, 210)  -- R1.15
+    ∷ ("slots,0/block,0,1,-,1/block,1,1,-,1/block,2,1,-,1/succ,0,0/succ,1,2/pred,0,0/", 65536, 309)  -- R1.16
+    ∷ ("slots,0/block,0,1,-,1/block,1,1,-,0/block,2,1,-,0/succ,0,2/succ,2,1/pred,1,2/pred,2,0/", 65536, 311)  -- R1.17
+    ∷ ("slots,0/block,0,1,0,1/", 65536, 211)  -- R1.18
+    ∷ ("slots,0/block,0,1,-,1/block,1,1,1,1/block,2,1,-,0/block,3,1,-,0/succ,0,3/succ,3,2/pred,2,3/pred,3,0/", 65536, 311)  -- R1.19
+    ∷ ("slots,0/block,0,1,0,1/block,1,1,-,1/succ,0,1/pred,1,0/", 65536, 310)  -- R1.20
+    ∷ ("slots,0/block,0,1,-,1/block,1,1,-,0/block,2,1,-,0/", 65536, 312)  -- R1.21
+    ∷ ("slots,0/block,0,1,-,1/block,1,1,-,0/block,2,1,2,1/", 65536, 411)  -- R1.22
+    ∷ ("slots,0/block,0,0,1,1/", 65536, 3)  -- R1.23
+    ∷ ("slots,0/reg,0,0,0/class,0,0/value,0,-/block,0,1,-,1/block,1,1,-,0/op,0,use,0,c0,r0/", 65536, 612)  -- R1.24
+    ∷ ("slots,0/reg,0,0,0/class,0,0/value,0,-/block,0,1,-,1/op,0,use,0,c0,r0/", 65536, 5)  -- R1.25
+    ∷ ("slots,0/block,0,1,-,1/", 0, 8)  -- R1.26
     ∷ []
 
 pub record Readings : Type 0 where
   pub gives : Gives readings
   -- request 1, at level 1 with sweep
-  pub returns : map (λ e. returned (answer (lines (e .sheet)) 1 1 (e .room))) rows ≡ map (λ e. negℤ (pos (e .sum))) rows
+  pub returns : map (λ e. returned (answer (lines (e .0)) 1 1 (e .1))) rows ≡ map (λ e. negℤ (pos (e .2))) rows
   -- R1.27 and R1.28: the program's row shows the sum
   pub prints : (program (lines "slots,0/block,0,0,-,1/") ≡ lines "refused,204/") × (program (lines "slots,99999/") ≡ lines "refused,2/")

@@ -7,14 +7,9 @@ use mathlib.Core.Option.{Option·elim}
 use Prim.Native.Nat.{ℕ}
 use lib.Dec.{eqb}
 use lib.ListN.{length, getD, set, replicate}
-use Rattle.laws.specs.Fold.{run}
-use Rattle.laws.specs.Lists.{all}
+use Rattle.laws.specs.{Fold.run, Lists.all}
 use Rattle.entity.specs.Limits.{slotLimit, regLimit, unitLimit, valueLimit}
-use Rattle.entity.specs.declared.forms.Place.{Place}
-use Rattle.entity.specs.declared.forms.Place.the-variants.{Reg, Slot}
-use Rattle.entity.specs.declared.forms.Edit.{Edit}
-use Rattle.entity.specs.declared.forms.Edit.the-variants.{Move, Remat, Espill, Ereload, Misplaced, Nothing}
-use Rattle.rules.specs.Sheet.{Sheet, unitsOf, homeOf}
+use Rattle.rules.specs.Sheet.{Place, Reg, Slot, Edit, Move, Remat, Espill, Ereload, Misplaced, Nothing, Sheet, unitsOf, homeOf}
 
 -- no register, value or block; larger than each
 abbrev pub absent : ℕ

@@ -144,11 +144,7 @@ rowOk (c ∷ cs) = Option·elim (kindFrom kinds c) false (λ k. fits (k .shape) 
 
 -- a first field where its kind begins, and after a row of its kind whose first field is x
 unfoldable pub begins : Order → ℕ → Bool
-begins once n = true
-begins counts n = eqb n 0
-begins rises n = true
-begins never-falls n = true
-begins free n = true
+begins o n = elim o [ counts ↦ eqb n 0 | once ↦ true | rises ↦ true | never-falls ↦ true | free ↦ true ]
 
 unfoldable pub goesOn : Order → ℕ → ℕ → Bool
 goesOn once x n = false

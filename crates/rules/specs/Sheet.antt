@@ -1,21 +1,21 @@
 -- A sheet by its rows: what each row of each kind says, in the words of document 01's "Rows". Fields that name something are numbers; places,
 -- constraints, operand kinds and edits are the enums of `entity`.
-use mathlib.Core.Bool.{Bool, true, false, cond, not, _&&_}
+use mathlib.Core.Bool.{Bool, true, false, cond}
 use mathlib.Core.List.{List, [], _∷_, map, flatMap}
 use mathlib.Core.Option.{Option, none, some}
-use Prim.Native.Nat.{ℕ, zero, suc, _+_, _-_}
+use Prim.Native.Nat.{ℕ, _+_, _-_}
 use Prim.Native.String.{String}
 use lib.Dec.{eqb, ltb}
 use lib.ListN.{length, getD, drop}
 use Rattle.laws.specs.Lists.{keep, from}
-use Rattle.entity.specs.declared.forms.Place.{Place}
-use Rattle.entity.specs.declared.forms.Place.the-variants.{Reg, Slot}
-use Rattle.entity.specs.declared.forms.Constraint.{Constraint}
-use Rattle.entity.specs.declared.forms.Constraint.the-variants.{Class, Fixed, Reuse}
-use Rattle.entity.specs.declared.forms.OperandKind.{OperandKind}
-use Rattle.entity.specs.declared.forms.OperandKind.the-variants.{Def, Use, EarlyDef, DefGroup, UseGroup, EarlyDefGroup, NonAllocatable}
-use Rattle.entity.specs.declared.forms.Edit.{Edit}
-use Rattle.entity.specs.declared.forms.Edit.the-variants.{Move, Remat, Espill, Ereload, Misplaced, Nothing}
+pub use Rattle.entity.specs.declared.forms.Place.{Place}
+pub use Rattle.entity.specs.declared.forms.Place.the-variants.{Reg, Slot}
+pub use Rattle.entity.specs.declared.forms.Constraint.{Constraint}
+pub use Rattle.entity.specs.declared.forms.Constraint.the-variants.{Class, Fixed, Reuse}
+pub use Rattle.entity.specs.declared.forms.OperandKind.{OperandKind}
+pub use Rattle.entity.specs.declared.forms.OperandKind.the-variants.{Def, Use, EarlyDef, DefGroup, UseGroup, EarlyDefGroup, NonAllocatable}
+pub use Rattle.entity.specs.declared.forms.Edit.{Edit}
+pub use Rattle.entity.specs.declared.forms.Edit.the-variants.{Move, Remat, Espill, Ereload, Misplaced, Nothing}
 use Rattle.rules.specs.Cells.{word, classMark, fixedMark, regMark, reuseMark, slotMark}
 
 -- `reg,r,memory,unit..`

@@ -9,10 +9,7 @@ use lib.ListN.{length, getD, set}
 use Rattle.laws.specs.Fold.{run}
 use Rattle.laws.specs.Lists.{all, keep, isIn, from}
 use Rattle.entity.specs.Limits.{slotLimit}
-use Rattle.entity.specs.declared.forms.Place.{Place}
-use Rattle.entity.specs.declared.forms.Edit.{Edit}
-use Rattle.entity.specs.declared.forms.Edit.the-variants.{Move, Remat, Espill, Ereload, Misplaced, Nothing}
-use Rattle.rules.specs.Sheet.{Sheet}
+use Rattle.rules.specs.Sheet.{Place, Edit, Move, Remat, Espill, Ereload, Misplaced, Nothing, Sheet}
 use Rattle.rules.specs.Forward.{Walk, count, deadSpill, deadRemat, blocks}
 use Rattle.rules.specs.Function.{Op, edit, Func, nextOf, Target, into, over, target, reads, Item, row, ins, items, look, funcOf, In, Left}
 
@@ -57,12 +54,7 @@ pub data SweptOp (f : Func) (b i : ℕ) (o o′ : Op) : Type 0 where
 -- ---- the counts
 
 unfoldable pub isNothing : Edit → Bool
-isNothing (Move to p v) = false
-isNothing (Remat to v) = false
-isNothing (Espill d r) = false
-isNothing (Ereload r q) = false
-isNothing (Misplaced to p) = false
-isNothing Nothing = true
+isNothing e = elim e [ Nothing ↦ true | Move to p v ↦ false | Remat to v ↦ false | Espill d r ↦ false | Ereload r q ↦ false | Misplaced to p ↦ false ]
 
 -- "the sweep counts a move as dead spill, a remat as dead remat"
 unfoldable pub struck : List ℕ → Edit × Edit → List ℕ

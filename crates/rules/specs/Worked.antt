@@ -1,14 +1,13 @@
 -- Document 01, "Worked sheet": C1 to C11 as one table, with what the definitions must answer.
 use mathlib.Core.Path.{_≡_}
-use mathlib.Core.Bool.{Bool, cond}
+use mathlib.Core.Bool.{cond}
 use mathlib.Core.List.{List, [], _∷_, _++_, map, flatMap}
 use Prim.Native.Nat.{ℕ}
 use Prim.Native.Char.{code}
 use Prim.Native.String.{String}
 use lib.Dec.{eqb}
-use lib.IntN.{ℤ, pos, negℤ}
+use lib.IntN.{pos, negℤ}
 use lib.ListN.{length, replicate}
-use Rattle.entity.specs.declared.forms.Refusal.{Refusal}
 use Rattle.entity.specs.declared.forms.Refusal.the-variants.{Rows, Limits, Operands, Call, Room}
 use Rattle.rules.specs.Text.{bytes}
 use Rattle.rules.specs.Answer.{Answer, refused, written, answer, returned, buffer, program}

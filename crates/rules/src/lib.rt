@@ -1,8 +1,8 @@
 // The rules of document 01 as definitions: read specs/ in the order of specs/Lib.antt, with document 01 beside it.
 // The functions do nothing: each contract is a theorem that guards the definitions, so that no check passes without it.
 ghost use mathlib.Core.Path.{_≡_};
-ghost use Rattle.rules.specs.Cells.{numberLimit, wordMark, regMark, slotMark, classMark, fixedMark, reuseMark, markEnd};
-ghost use Rattle.rules.specs.Words.{Named, dashWord, slotsWord, regWord, classWord, groupWord, valueWord, vgroupWord, blockWord, succWord, predWord, paramWord, opWord, clobWord, editWord, defWord, useWord, earlyWord, defgWord, usegWord, earlygWord, fixedWord, moveWord, rematWord, espillWord, ereloadWord, noneWord};
+ghost use Rattle.rules.specs.Cells.{word, numberLimit, wordMark, regMark, slotMark, classMark, fixedMark, reuseMark, markEnd};
+ghost use Rattle.rules.specs.Words.{Named};
 ghost use Rattle.rules.specs.Examples.{Examples};
 ghost use Rattle.rules.specs.Readings.{Readings};
 ghost use Rattle.rules.specs.Sheets.{RowsRead};
@@ -25,32 +25,32 @@ pub fn marks_agree()
 
 // So are the words.
 pub fn words_agree()
-    ensures { λ _. do ⌜ (← ⟦Word::DASH⟧ .entry) ≡ dashWord ⌝ }
-    ensures { λ _. do ⌜ (← ⟦Word::SLOTS⟧ .entry) ≡ slotsWord ⌝ }
-    ensures { λ _. do ⌜ (← ⟦Word::REG⟧ .entry) ≡ regWord ⌝ }
-    ensures { λ _. do ⌜ (← ⟦Word::CLASS⟧ .entry) ≡ classWord ⌝ }
-    ensures { λ _. do ⌜ (← ⟦Word::GROUP⟧ .entry) ≡ groupWord ⌝ }
-    ensures { λ _. do ⌜ (← ⟦Word::VALUE⟧ .entry) ≡ valueWord ⌝ }
-    ensures { λ _. do ⌜ (← ⟦Word::VGROUP⟧ .entry) ≡ vgroupWord ⌝ }
-    ensures { λ _. do ⌜ (← ⟦Word::BLOCK⟧ .entry) ≡ blockWord ⌝ }
-    ensures { λ _. do ⌜ (← ⟦Word::SUCC⟧ .entry) ≡ succWord ⌝ }
-    ensures { λ _. do ⌜ (← ⟦Word::PRED⟧ .entry) ≡ predWord ⌝ }
-    ensures { λ _. do ⌜ (← ⟦Word::PARAM⟧ .entry) ≡ paramWord ⌝ }
-    ensures { λ _. do ⌜ (← ⟦Word::OP⟧ .entry) ≡ opWord ⌝ }
-    ensures { λ _. do ⌜ (← ⟦Word::CLOB⟧ .entry) ≡ clobWord ⌝ }
-    ensures { λ _. do ⌜ (← ⟦Word::EDIT⟧ .entry) ≡ editWord ⌝ }
-    ensures { λ _. do ⌜ (← ⟦Word::DEF⟧ .entry) ≡ defWord ⌝ }
-    ensures { λ _. do ⌜ (← ⟦Word::USE⟧ .entry) ≡ useWord ⌝ }
-    ensures { λ _. do ⌜ (← ⟦Word::EARLY⟧ .entry) ≡ earlyWord ⌝ }
-    ensures { λ _. do ⌜ (← ⟦Word::DEFG⟧ .entry) ≡ defgWord ⌝ }
-    ensures { λ _. do ⌜ (← ⟦Word::USEG⟧ .entry) ≡ usegWord ⌝ }
-    ensures { λ _. do ⌜ (← ⟦Word::EARLYG⟧ .entry) ≡ earlygWord ⌝ }
-    ensures { λ _. do ⌜ (← ⟦Word::FIXED⟧ .entry) ≡ fixedWord ⌝ }
-    ensures { λ _. do ⌜ (← ⟦Word::MOVE⟧ .entry) ≡ moveWord ⌝ }
-    ensures { λ _. do ⌜ (← ⟦Word::REMAT⟧ .entry) ≡ rematWord ⌝ }
-    ensures { λ _. do ⌜ (← ⟦Word::ESPILL⟧ .entry) ≡ espillWord ⌝ }
-    ensures { λ _. do ⌜ (← ⟦Word::ERELOAD⟧ .entry) ≡ ereloadWord ⌝ }
-    ensures { λ _. do ⌜ (← ⟦Word::NONE⟧ .entry) ≡ noneWord ⌝ }
+    ensures { λ _. do ⌜ (← ⟦Word::DASH⟧ .entry) ≡ word "-" ⌝ }
+    ensures { λ _. do ⌜ (← ⟦Word::SLOTS⟧ .entry) ≡ word "slots" ⌝ }
+    ensures { λ _. do ⌜ (← ⟦Word::REG⟧ .entry) ≡ word "reg" ⌝ }
+    ensures { λ _. do ⌜ (← ⟦Word::CLASS⟧ .entry) ≡ word "class" ⌝ }
+    ensures { λ _. do ⌜ (← ⟦Word::GROUP⟧ .entry) ≡ word "group" ⌝ }
+    ensures { λ _. do ⌜ (← ⟦Word::VALUE⟧ .entry) ≡ word "value" ⌝ }
+    ensures { λ _. do ⌜ (← ⟦Word::VGROUP⟧ .entry) ≡ word "vgroup" ⌝ }
+    ensures { λ _. do ⌜ (← ⟦Word::BLOCK⟧ .entry) ≡ word "block" ⌝ }
+    ensures { λ _. do ⌜ (← ⟦Word::SUCC⟧ .entry) ≡ word "succ" ⌝ }
+    ensures { λ _. do ⌜ (← ⟦Word::PRED⟧ .entry) ≡ word "pred" ⌝ }
+    ensures { λ _. do ⌜ (← ⟦Word::PARAM⟧ .entry) ≡ word "param" ⌝ }
+    ensures { λ _. do ⌜ (← ⟦Word::OP⟧ .entry) ≡ word "op" ⌝ }
+    ensures { λ _. do ⌜ (← ⟦Word::CLOB⟧ .entry) ≡ word "clob" ⌝ }
+    ensures { λ _. do ⌜ (← ⟦Word::EDIT⟧ .entry) ≡ word "edit" ⌝ }
+    ensures { λ _. do ⌜ (← ⟦Word::DEF⟧ .entry) ≡ word "def" ⌝ }
+    ensures { λ _. do ⌜ (← ⟦Word::USE⟧ .entry) ≡ word "use" ⌝ }
+    ensures { λ _. do ⌜ (← ⟦Word::EARLY⟧ .entry) ≡ word "early" ⌝ }
+    ensures { λ _. do ⌜ (← ⟦Word::DEFG⟧ .entry) ≡ word "defg" ⌝ }
+    ensures { λ _. do ⌜ (← ⟦Word::USEG⟧ .entry) ≡ word "useg" ⌝ }
+    ensures { λ _. do ⌜ (← ⟦Word::EARLYG⟧ .entry) ≡ word "earlyg" ⌝ }
+    ensures { λ _. do ⌜ (← ⟦Word::FIXED⟧ .entry) ≡ word "fixed" ⌝ }
+    ensures { λ _. do ⌜ (← ⟦Word::MOVE⟧ .entry) ≡ word "move" ⌝ }
+    ensures { λ _. do ⌜ (← ⟦Word::REMAT⟧ .entry) ≡ word "remat" ⌝ }
+    ensures { λ _. do ⌜ (← ⟦Word::ESPILL⟧ .entry) ≡ word "espill" ⌝ }
+    ensures { λ _. do ⌜ (← ⟦Word::ERELOAD⟧ .entry) ≡ word "ereload" ⌝ }
+    ensures { λ _. do ⌜ (← ⟦Word::NONE⟧ .entry) ≡ word "none" ⌝ }
 {}
 
 // Each mark and each word is the cell that the definitions find for it.

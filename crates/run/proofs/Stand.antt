@@ -20,10 +20,14 @@ use Rattle.rules.specs.Accept.{instExists, editNames}
 use Rattle.rules.specs.Forward.{editsAt}
 use Rattle.rules.specs.Function.{Item, row, ins, items, In}
 use Rattle.rules.proofs.Refusals.{all-named, each-named}
-use Rattle.run.specs.Swept.{Stands, stands, instructionOf}
+use Rattle.run.specs.Swept.{Stands, stands}
 use Rattle.run.specs.Theorem.{StandOnce}
 
 -- ---- rows in a list of items
+
+-- the instruction that row j of the edits is at
+abbrev pub instructionOf : Sheet → ℕ → ℕ
+instructionOf sh j = getD (map (λ e. e .at) (sh .edits)) j 0
 
 abbrev pub RowIn : ℕ → List Item → Type 0
 RowIn j [] = ⊥

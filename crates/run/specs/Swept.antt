@@ -2,21 +2,17 @@
 use mathlib.Core.Path.{_≡_}
 use mathlib.Core.Logic.{_⊎_, _↔_}
 use mathlib.Core.Bool.{true}
-use mathlib.Core.List.{List, [], _∷_, map}
+use mathlib.Core.List.{List, [], _∷_}
 use Prim.Native.Nat.{ℕ, suc, _<_}
 use lib.ListN.{length, getD, drop}
 use Rattle.laws.specs.Lists.{isIn}
 use Rattle.entity.specs.Limits.{slotLimit}
 use Rattle.entity.specs.declared.numbers.Value.{Value}
-use Rattle.entity.specs.declared.forms.Place.{Place}
-use Rattle.entity.specs.declared.forms.Place.the-variants.{Reg, Slot}
-use Rattle.entity.specs.declared.forms.Edit.{Edit}
-use Rattle.entity.specs.declared.forms.Edit.the-variants.{Move, Remat, Nothing}
+use Rattle.entity.specs.declared.forms.Place.{Place, the-variants.Reg, the-variants.Slot}
+use Rattle.entity.specs.declared.forms.Edit.{Edit, the-variants.Move, the-variants.Remat, the-variants.Nothing}
 use Rattle.entity.specs.declared.forms.Level.{Level}
-use Rattle.rules.specs.Sheet.{Sheet}
-use Rattle.rules.specs.Forward.{Walk, optimise, start}
+use Rattle.rules.specs.{Sheet.Sheet, Forward.Walk, Forward.optimise, Forward.start, Sweep.Wanted, Sweep.SweptOp, Sweep.sweep}
 use Rattle.rules.specs.Function.{Op, edit, Func, opsOf, nextOf, Item, row, items, funcOf, In, Left, reads}
-use Rattle.rules.specs.Sweep.{Wanted, SweptOp, sweep}
 use Rattle.rules.specs.Model.{Machine}
 
 -- os′ are the operations os, from position i of block b on, swept
@@ -46,10 +42,6 @@ pub data Stands (sh : Sheet) (b i j : ℕ) : Type 0 where
 -- and nowhere else
 abbrev pub StandsOnce : Sheet → ℕ → ℕ → ℕ → Type 0
 StandsOnce sh b i j = Stands sh b i j × ((b′ i′ : ℕ) → Stands sh b′ i′ j → (b ≡ b′) × (i ≡ i′))
-
--- the instruction that row j of the edits is at
-abbrev pub instructionOf : Sheet → ℕ → ℕ
-instructionOf sh j = getD (map (λ e. e .at) (sh .edits)) j 0
 
 -- row by row, es′ is what the sweep makes of the edits es
 abbrev pub SweptRows : Sheet → List Place → List Edit → List Edit → Type 0

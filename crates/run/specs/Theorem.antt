@@ -7,15 +7,11 @@ use Prim.Native.Nat.{ℕ, suc, _≤_, _<_}
 use lib.ListN.{length, getD}
 use Rattle.laws.specs.Lists.{isIn}
 use Rattle.entity.specs.declared.forms.Place.{Place}
-use Rattle.entity.specs.declared.forms.Edit.{Edit}
-use Rattle.entity.specs.declared.forms.Edit.the-variants.{Nothing}
+use Rattle.entity.specs.declared.forms.Edit.{Edit, the-variants.Nothing}
 use Rattle.entity.specs.declared.forms.Level.{Level}
-use Rattle.rules.specs.Sheet.{Sheet}
-use Rattle.rules.specs.Accept.{withinLimits, namesHold}
-use Rattle.rules.specs.Forward.{Walk}
+use Rattle.rules.specs.{Sheet.Sheet, Accept.withinLimits, Accept.namesHold, Forward.Walk, Brought.BroughtOn}
 use Rattle.rules.specs.Function.{Inst, Op, edit, inst, Func, funcOf, In, Left, IsWalk, along}
 use Rattle.rules.specs.Sweep.{Wanted, wantedAt, ends, strikeBlocks, sweep}
-use Rattle.rules.specs.Brought.{BroughtOn}
 use Rattle.rules.specs.Model.{State, Machine, step, steps, Agree}
 use Rattle.run.specs.Swept.{Swept, Removed, IntoSlot, SweptRows, Stands, StandsOnce, MadeNone, AreEnds, ReadsWithin, optimised, foldedPlaces, editsBefore, editsAfter, walked, UnitIn}
 

@@ -9,7 +9,8 @@ use lib.Dec.{eqb, ltb, leb}
 use borrow.Author.Tests.{eq-eqb, ne-eqb}
 use Rattle.laws.specs.Lists.{all}
 use Rattle.laws.proofs.Cases.{by-eq}
-use Rattle.rules.specs.Words.{blockWord, classWord, clobWord, editWord, groupWord, opWord, paramWord, predWord, regWord, slotsWord, succWord, valueWord, vgroupWord}
+use Rattle.rules.specs.Words.{slotsWord}
+use Rattle.rules.proofs.Words.{blockWord, classWord, clobWord, editWord, groupWord, opWord, paramWord, predWord, regWord, succWord, valueWord, vgroupWord}
 use Rattle.rules.specs.Rows.{Kind, kinds, kindFrom, kind, first, begins, goesOn, rowOk, pairOk, pairsOk, sheetOk, reading}
 use Rattle.sheet.specs.Grammar.{fitsKind, beginsKind, goesOnKind, follows}
 use Rattle.table.specs.Table.{rowsFrom, rowsIn}

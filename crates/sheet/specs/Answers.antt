@@ -7,12 +7,9 @@ use mathlib.Core.Option.{Option, none, some}
 use lib.ListN.{length, drop}
 use lib.Dec.{eqb}
 use Rattle.rules.specs.Cells.{cellOf}
-use Rattle.sheet.specs.declared.fields.Num.{Num}
-use Rattle.sheet.specs.declared.fields.Num.the-variants.{Is, Nothing}
-use Rattle.sheet.specs.declared.lexing.Piece.{Piece}
-use Rattle.sheet.specs.declared.lexing.Piece.the-variants.{More, Last, Unread}
-use Rattle.sheet.specs.declared.lexing.Lexed.{Lexed}
-use Rattle.sheet.specs.declared.lexing.Lexed.the-variants.{Rows, Broken}
+use Rattle.sheet.specs.declared.fields.Num.{Num, the-variants.Is, the-variants.Nothing}
+use Rattle.sheet.specs.declared.lexing.Piece.{Piece, the-variants.More, the-variants.Last, the-variants.Unread}
+use Rattle.sheet.specs.declared.lexing.Lexed.{Lexed, the-variants.Rows, the-variants.Broken}
 
 unfoldable pub asNum : Option ℕ → Num
 asNum none = Nothing

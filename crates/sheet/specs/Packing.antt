@@ -4,8 +4,7 @@ use mathlib.Core.Bool.{cond}
 use mathlib.Core.List.{List, [], _∷_, map}
 use mathlib.Core.Option.{Option, none, some}
 use lib.Dec.{eqb}
-use Rattle.rules.specs.Text.{bytes}
-use Rattle.rules.specs.Cells.{words}
+use Rattle.rules.specs.{Text.bytes, Cells.words}
 
 unfoldable pub pack : List ℕ → ℕ
 pack [] = 1

@@ -17,9 +17,13 @@ use Rattle.rules.specs.Forward.{meet, sameKnown}
 use Rattle.record.specs.Layout.{heldAt, storedAt}
 use Rattle.record.specs.Flat.{section, recordIn, Long}
 use Rattle.states.specs.Layout.{flagsAt, knownSize}
-use Rattle.states.specs.States.{Roomy, knownAt, isSet, metAt, metIn, Meets}
+use Rattle.states.specs.States.{Roomy, knownAt, isSet, metIn, Meets}
 use Rattle.states.proofs.Spans.{Span, span-store, Kept, kept-next, section-long, section-at, zip-long, zip-at}
 use Rattle.states.proofs.Cells.{known-is, known-same, known-at, set-miss, sets, stored-sets}
+
+-- number j of the state at `at`, if the record knows it too
+abbrev pub metAt : List ℕ → List ℕ → ℕ → ℕ → ℕ
+metAt rec states at j = cond (eqb (getD states (at + j) 0) (getD rec (heldAt + j) 0)) (getD states (at + j) 0) absent
 
 module _ (states states′ : List ℕ) (at : ℕ) (fits : at + knownSize ≤ length states) (sh : Sheet) (rec : List ℕ) (long : Long rec) where
   pub met-known : Span at (metAt rec states at) states knownSize states′

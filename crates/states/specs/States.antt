@@ -13,7 +13,6 @@ use Rattle.bits.specs.declared.sets.NumberSet.{NumberSet}
 use Rattle.rules.specs.Sheet.{Sheet}
 use Rattle.rules.specs.Record.{Known, nothing, absent}
 use Rattle.rules.specs.Forward.{Handed, meet, sameKnown}
-use Rattle.record.specs.Layout.{heldAt}
 use Rattle.record.specs.Flat.{section, definedIn, recordIn}
 use Rattle.states.specs.Layout.{flagsAt, knownSize, statesLength}
 
@@ -69,10 +68,6 @@ pub record Started (f : ℕ → Bool) (states : List ℕ) (i : ℕ) : Type 0 whe
 -- the members of the set are the numbers below i at which f is true
 abbrev pub Waits : (ℕ → Bool) → NumberSet → ℕ → Type 0
 Waits f w i = (b : ℕ) → b < setLimit → has w b ≡ (ltb b i && f b)
-
--- number j of the state at `at`, if the record knows it too
-abbrev pub metAt : List ℕ → List ℕ → ℕ → ℕ → ℕ
-metAt rec states at j = cond (eqb (getD states (at + j) 0) (getD rec (heldAt + j) 0)) (getD states (at + j) 0) absent
 
 -- what is left of block b's state: what the record knows too
 abbrev pub metIn : Sheet → List ℕ → List ℕ → ℕ → Known

@@ -11,7 +11,7 @@ use lib.ListN.{length, getD, length-map, List·getD-map}
 use borrow.Author.Tests.{lt-ltb, le-ltb, eq-eqb, ne-eqb, ltb-true, leb-true, eqb-true}
 use Rattle.laws.specs.Lists.{all, keep}
 use Rattle.laws.proofs.Cases.{by-bool, by-lt, by-eq, by-option}
-use Rattle.rules.specs.Words.{clobWord, opWord, paramWord, predWord, succWord}
+use Rattle.rules.proofs.Words.{clobWord, opWord, paramWord, predWord, succWord}
 use Rattle.rules.specs.Cells.{word}
 use Rattle.rules.specs.Rows.{Kind, Order, rises, never-falls, number, place, list₁, end, _▸_, opShape, kinds, kindFrom, kind, first, goesOn, begins, pairOk, pairsOk, rowOk, sheetOk, reading}
 use Rattle.rules.specs.Sheet.{EditRow}

@@ -24,7 +24,8 @@ use Rattle.entity.specs.declared.forms.Place.{Place}
 use Rattle.entity.specs.declared.forms.Place.the-variants.{Reg, Slot}
 use Rattle.entity.specs.declared.forms.Edit.{Edit}
 use Rattle.entity.specs.declared.forms.Edit.the-variants.{Move, Remat, Espill, Ereload, Misplaced, Nothing}
-use Rattle.rules.specs.Words.{dashWord, ereloadWord, espillWord, moveWord, noneWord, rematWord}
+use Rattle.rules.specs.Words.{ereloadWord, espillWord, moveWord, noneWord, rematWord}
+use Rattle.rules.proofs.Words.{dashWord}
 use Rattle.rules.specs.Cells.{word, find, words, numberLimit, regMark, slotMark}
 use Rattle.rules.specs.Sheet.{EditRow, placeOf, espillOf, ereloadOf, editOf}
 use Rattle.rules.specs.Accept.{placed}

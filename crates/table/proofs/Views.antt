@@ -5,7 +5,7 @@ use mathlib.Core.Option.{none}
 use Prim.Native.Nat.{ℕ, _<_, _≤_}
 use lib.ListN.{getD, drop}
 use borrow.Author.Tests.{ne-eqb}
-use Rattle.rules.specs.Words.{dashWord}
+use Rattle.rules.proofs.Words.{dashWord}
 use Rattle.rules.specs.Cells.{word, words, find}
 use Rattle.rules.specs.Sheet.{field, flagOf, maybe, placeOf, constraintOf, kindOf, unitsOf, isMemory, classRow, homeOf, valuesOf, blockRow}
 use Rattle.table.specs.Rows.{countIn, kindRow}

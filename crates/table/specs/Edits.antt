@@ -1,12 +1,10 @@
 -- Edits and operand places in cells, as the optimizer and the sweep alter them: four cells an edit, kind, to, from and value, and one a place.
-use mathlib.Core.List.{List, [], _∷_, map}
+use mathlib.Core.List.{List, map}
 use Prim.Native.Nat.{ℕ, _+_, _*_, _<_}
 use lib.ListN.{getD, set}
 use Rattle.laws.specs.Lists.{from}
-use Rattle.entity.specs.declared.forms.Place.{Place}
-use Rattle.entity.specs.declared.forms.Place.the-variants.{Reg, Slot}
-use Rattle.entity.specs.declared.forms.Edit.{Edit}
-use Rattle.entity.specs.declared.forms.Edit.the-variants.{Move, Remat, Espill, Ereload, Misplaced, Nothing}
+use Rattle.entity.specs.declared.forms.Place.{Place, the-variants.Reg, the-variants.Slot}
+use Rattle.entity.specs.declared.forms.Edit.{Edit, the-variants.Move, the-variants.Remat, the-variants.Espill, the-variants.Ereload, the-variants.Misplaced, the-variants.Nothing}
 use Rattle.rules.specs.Cells.{numberLimit}
 use Rattle.rules.specs.Sheet.{placeOf, editOf}
 use Rattle.rules.specs.Answer.{editCells}

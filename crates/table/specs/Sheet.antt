@@ -1,5 +1,5 @@
 -- The sheet that a table holds.
-use mathlib.Core.List.{List, [], _∷_, map}
+use mathlib.Core.List.{List, map}
 use Prim.Native.Nat.{ℕ, _-_}
 use Rattle.laws.specs.Lists.{from}
 use Rattle.rules.specs.Cells.{word}

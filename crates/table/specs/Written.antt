@@ -3,8 +3,7 @@ use mathlib.Core.Path.{_≡_}
 use mathlib.Core.List.{List, [], _∷_}
 use Prim.Native.Nat.{ℕ, _+_, _*_, _<_, _≤_}
 use lib.ListN.{length, getD}
-use Rattle.entity.specs.declared.forms.Edit.{Edit}
-use Rattle.entity.specs.declared.forms.Edit.the-variants.{Move, Remat, Espill, Ereload, Misplaced, Nothing}
+use Rattle.entity.specs.declared.forms.Edit.{Edit, the-variants.Move, the-variants.Remat, the-variants.Espill, the-variants.Ereload, the-variants.Misplaced, the-variants.Nothing}
 use Rattle.entity.specs.declared.forms.Place.{Place}
 use Rattle.rules.specs.Cells.{classMark, numberLimit, regMark}
 use Rattle.rules.specs.Answer.{editCells}

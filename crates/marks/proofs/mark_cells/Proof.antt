@@ -1,5 +1,10 @@
-use Rattle.marks.proofs.Marking.{laid-out}
+use mathlib.Core.Path.{ap, _∙_}
+use native.Mathlib.Omega.{arith}
+use lib.ListN.{length, length-take}
+use denote.Ref.{now}
 use borrow.Author.Needs.{needs}
+use Rattle.entity.specs.Limits.{editLimit}
+use Rattle.marks.specs.Marks.{applied}
 use Rattle.marks.proofs.mark_cells.Statement.{statement}
 use Rattle.marks.proofs.mark_cells.Tie as tie
 
@@ -8,7 +13,6 @@ mark-cells-spec =
     tie.close
     (tie.spec
     (λ c κs. search needs)
-    (λ c κs. search needs)
-    (λ c κs. search needs)
+    (λ c κs. omega (arith, ap length (c .within .ensures), length-take editLimit (now (c .before .before .before .before .args .marks))))
     (λ c. search needs)
-    (λ c. laid-out _ _ _ (c .before .before .before .before .before .before .before .before .before .pre) (c .before .before .before .before .before .listed .ensures) (c .before .before .before .before .marked .ensures) (c .before .before .lay-out .ensures)))
+    (λ c. c .before .before .mark-rows .ensures ∙ ap (applied _) (c .before .before .before .within .ensures)))

@@ -1,4 +1,4 @@
-use Rattle.rules.specs.Words.{fixedWord}
+use Rattle.rules.proofs.Words.{fixedWord}
 use Rattle.rules.specs.Rows.{number, dash, place, constraint, fieldOk, fits, reading}
 use lib.Dec.{eqb}
 use Rattle.sheet.proofs.Fitting.{chain-5}

@@ -1,4 +1,5 @@
-use Rattle.rules.specs.Words.{defWord, earlygWord}
+use Rattle.rules.specs.Words.{defWord}
+use Rattle.rules.proofs.Words.{earlygWord}
 use Rattle.rules.specs.Rows.{number, place, constraint, fieldOk, fits, reading}
 use lib.Dec.{leb}
 use mathlib.Core.Bool.{_&&_}

@@ -1,4 +1,4 @@
-use Rattle.states.proofs.Meeting.{met-next}
+use Rattle.states.proofs.Meeting.{metAt, met-next}
 use Rattle.states.proofs.Meeting.{met, unmet}
 use mathlib.Core.Path.{_≡_, refl, sym, ap, _∙_}
 use mathlib.Core.Bool.{cond}
@@ -9,7 +9,7 @@ use lib.Dec.{eqb}
 use lib.ListN.{length, getD}
 use Rattle.record.specs.Flat.{Long}
 use Rattle.states.specs.Layout.{knownSize}
-use Rattle.states.specs.States.{Roomy, metAt}
+use Rattle.states.specs.States.{Roomy}
 use Rattle.states.proofs.Spans.{Span, span-none, span-store, Kept, kept-none, kept-next}
 use borrow.Author.Needs.{needs}
 use Rattle.states.proofs.handed.meet.Statement.{statement}

@@ -1,9 +1,17 @@
 use mathlib.Core.Path.{sym, ap, _∙_}
 use borrow.Author.Needs.{needs}
 use Rattle.laws.proofs.First.{first-map}
-use Rattle.entity.specs.Sets.{asBlock}
+use Rattle.bits.specs.declared.sets.Found.{Found}
+use Rattle.bits.specs.declared.sets.Found.the-variants as Found
+use Rattle.entity.specs.declared.sets.FoundBlock.{FoundBlock}
+use Rattle.entity.specs.declared.sets.FoundBlock.the-variants as FoundBlock
 use Rattle.entity.proofs.sets.BlockSet.lowest.Statement.{statement}
 use Rattle.entity.proofs.sets.BlockSet.lowest.Tie as tie
+
+-- a number found, as a number of its kind
+abbrev asBlock : Found → FoundBlock
+asBlock (Found.At k) = FoundBlock.At (record { 0 = k })
+asBlock Found.Nothing = FoundBlock.Nothing
 
 pub lowest-spec : {M : Type 1} → statement M
 lowest-spec =

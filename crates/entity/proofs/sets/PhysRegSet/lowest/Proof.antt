@@ -1,9 +1,17 @@
 use mathlib.Core.Path.{sym, ap, _∙_}
 use borrow.Author.Needs.{needs}
 use Rattle.laws.proofs.First.{first-map}
-use Rattle.entity.specs.Sets.{asReg}
+use Rattle.bits.specs.declared.sets.Found.{Found}
+use Rattle.bits.specs.declared.sets.Found.the-variants as Found
+use Rattle.entity.specs.declared.sets.FoundReg.{FoundReg}
+use Rattle.entity.specs.declared.sets.FoundReg.the-variants as FoundReg
 use Rattle.entity.proofs.sets.PhysRegSet.lowest.Statement.{statement}
 use Rattle.entity.proofs.sets.PhysRegSet.lowest.Tie as tie
+
+-- a number found, as a number of its kind
+abbrev asReg : Found → FoundReg
+asReg (Found.At k) = FoundReg.At (record { 0 = k })
+asReg Found.Nothing = FoundReg.Nothing
 
 pub lowest-spec : {M : Type 1} → statement M
 lowest-spec =

@@ -1,9 +1,8 @@
--- `unfolding computing` opens every definition that `answer` computes with.
+-- `unfolding computing` opens every definition that `answer` computes with: for the theorems by computing, here and of oracle/definitions.
 use mathlib.Core.Bool.{Bool, true}
 use mathlib.Core.List.{flatMap, zip, zipWith}
 use mathlib.Core.Option.{bind, Option·elim}
-use Rattle.laws.specs.First.{first}
-use Rattle.laws.specs.Fold.{run}
+use Rattle.laws.specs.{First.first, Fold.run}
 use Rattle.laws.specs.Lists.{all, any, keep, isIn, twice, from}
 use Rattle.rules.specs.Rows.{reading}
 use Rattle.rules.specs.Sheet.{flagOf, maybe, placeOf, constraintOf, kindOf, isUse, isUseGroup, isEarly, subjectOf, espillOf, ereloadOf, editOf, listRow, sheetBy, sheetOf, totalOf, listAt, instsFrom}
