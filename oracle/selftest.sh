@@ -28,12 +28,13 @@ echo "== edges"
 last $O edges
 $O edges cases > "$C/edges"
 $O worked cases > "$C/worked"
+$O worst cases > "$C/worst"
 
 echo "== cases: gen $SEED $N, mutate $SEED $N"
 $O gen "$SEED" "$N" > "$C/good"
 $O mutate "$SEED" "$N" > "$C/damaged"
 $O cover "$C/good" "$C/damaged"
-for f in good damaged; do
+for f in good damaged worst; do
   echo "== $f: the Rust against 01's rules, the refusals twice, the model"
   $O diff "$C/$f"
   last $O why "$C/$f"
@@ -46,7 +47,7 @@ last $D edges
 for f in debug damaged; do
   $D diff "$C/$f"
 done
-for f in good damaged edges worked; do
+for f in good damaged edges worked worst; do
   $O answers "$C/$f" > "$C/$f.release"
   $D answers "$C/$f" > "$C/$f.debug"
   cmp "$C/$f.release" "$C/$f.debug"
@@ -54,7 +55,7 @@ done
 echo "release and debug builds answer alike"
 
 echo "== the library"
-for f in worked edges good damaged; do
+for f in worked edges worst good damaged; do
   status=0
   $O compare "$C/$f" || status=$?
   case $status in

@@ -6,10 +6,9 @@ use mathlib.Core.List.{List, [], _∷_}
 use mathlib.Core.Option.{none, Option·elim}
 use Prim.Native.Nat.{ℕ, _-_, _≤_, _<_}
 use native.Mathlib.Nat.{sub-zero}
-use native.Mathlib.Omega.{arith}
 use lib.Dec.{eqb, leb, ltb}
 use lib.ListN.{length, getD}
-use borrow.Author.Tests.{lt-ltb, eq-eqb, ne-eqb, lt-leb, le-leb, not-true, not-false}
+use borrow.Author.Tests.{eq-eqb, ne-eqb, lt-leb, le-leb, not-true, not-false}
 use Rattle.laws.specs.Lists.{all, any, isIn, from}
 use Rattle.rules.specs.Sheet.{Sheet, BlockRow, blockRow, succsOf, predsOf}
 use Rattle.rules.specs.Accept.{isEntry, blocksFrom0, someEntry, filled, namedBack, entryFirst, noCriticalEdge, edgesHold, solePredSmaller, idomSmaller, smallerHold}

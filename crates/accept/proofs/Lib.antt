@@ -1,4 +1,5 @@
 pub mod Blockwise
+pub mod Heads
 pub mod Lowest
 pub mod Walks
 pub mod Reaching

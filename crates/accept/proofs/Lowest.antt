@@ -104,6 +104,15 @@ module _ (f : ℕ → Bool) where
       (λ p. let w = one-broken (suc i) n b (rw p at e) in rw p (w .0, w .1, omega (arith, w .2)))
       (λ p. let z : At (record { 0 = i }) ≡ At (record { 0 = b }) = rw p at e in let q : i ≡ b = ap numberIn z in rw p (refl, q, omega arith))
 
+first-same : (f g : ℕ → Bool) (i n : ℕ) → ((b : ℕ) → b < i + n → f b ≡ g b) → broken f i n ≡ broken g i n
+unfolding first
+first-same f g i zero h = refl
+first-same f g i (suc n) h = rw (h i (omega arith), first-same f g (suc i) n (λ b l. h b (omega arith)))
+
+pub lowest-same : (sh : Sheet) (f g : ℕ → Bool) → ((b : ℕ) → b < blockCount sh → f b ≡ g b) → lowestOf sh f ≡ lowestOf sh g
+unfolding lowestOf
+lowest-same sh f g h = first-same f g 0 (blockCount sh) (λ b l. h b (omega arith))
+
 module _ (sh : Sheet) (f : ℕ → Bool) where
   pub lowest-none : lowestOf sh f ≡ Nothing → eachBlock sh f ≡ true
   unfolding lowestOf eachBlock

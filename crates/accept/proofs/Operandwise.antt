@@ -1,14 +1,13 @@
 -- For `src/constraints.rt`: refusal 5 operand by operand, by the code's answers: reuses, constraints, classes and groups. Assumes nothing.
 use mathlib.Core.Path.{_≡_, refl, sym, ap, _∙_}
 use mathlib.Core.Bool.{Bool, true, false, not, and-false}
-use mathlib.Core.List.{List, []}
+use mathlib.Core.List.{List}
 use mathlib.Core.Option.{Option·elim}
 use Prim.Native.Nat.{ℕ, _-_}
 use native.Mathlib.Nat.{sub-zero}
-use lib.Dec.{eqb}
 use lib.ListN.{length}
 use borrow.Author.Tests.{not-true, not-false}
-use Rattle.laws.specs.Lists.{all, any, isIn, from}
+use Rattle.laws.specs.Lists.{all, isIn, from}
 use Rattle.entity.specs.declared.forms.Place.{Place}
 use Rattle.entity.specs.declared.forms.Place.the-variants.{Reg, Slot}
 use Rattle.entity.specs.declared.forms.Constraint.{Constraint}
@@ -17,17 +16,17 @@ use Rattle.entity.specs.declared.numbers.PhysReg.{PhysReg}
 use Rattle.entity.specs.declared.numbers.SpillSlot.{SpillSlot}
 use Rattle.entity.specs.declared.numbers.RegClass.{RegClass}
 use Rattle.entity.specs.declared.numbers.OperandIndex.{OperandIndex}
-use Rattle.rules.specs.Sheet.{Sheet, OpRow, GroupRow, valuesOf, classRow}
-use Rattle.rules.specs.Accept.{samePlace, kindsMatch, operand, inClass, classOf, classFor, reuseHolds, constraintHolds, fixedHolds, headedBy, beginsGroup, groupAt, groupHolds, operandsHold}
+use Rattle.rules.specs.Sheet.{Sheet, OpRow, valuesOf, classRow}
+use Rattle.rules.specs.Accept.{samePlace, kindsMatch, operand, inClass, classOf, classFor, reuseHolds, constraintHolds, fixedHolds, beginsGroup, groupAt, groupHolds, operandsHold}
 use Rattle.table.specs.Rows.{countIn}
 use Rattle.table.specs.Sheet.{sheetIn}
-use Rattle.table.specs.View.{opRow, groupRow, operandOf}
+use Rattle.table.specs.View.{opRow, operandOf}
 use Rattle.table.specs.declared.view.Operand.{Operand}
-use Rattle.table.proofs.Loops.{all-numbers, any-numbers}
-use Rattle.table.proofs.Sheets.{long-of, ops-are, groups-are}
+use Rattle.table.proofs.Loops.{all-numbers}
+use Rattle.table.proofs.Sheets.{long-of, ops-are}
 use Rattle.operands.specs.Operands.{asRow, operandFound, classFound}
 use Rattle.operands.proofs.Finding.{op-lost, op-found, class-lost, class-found}
-use Rattle.accept.specs.Operands.{isClass, reuses, groupIs, operandHolds}
+use Rattle.accept.specs.Operands.{isClass, reuses, operandHolds}
 use Rattle.operands.specs.declared.FoundOperand.{FoundOperand}
 use Rattle.operands.specs.declared.FoundOperand.the-variants as FoundOperand
 use Rattle.operands.specs.declared.FoundClass.{FoundClass}
@@ -89,20 +88,6 @@ module _ {H : Type 0} (sh : Sheet) (o : Operand) where
   constraint-reuse k x e p g = p g ∙ sym (holds-by sh (asRow o) ∙ ap (holdsBy sh (asRow o)) e)
 
 -- ---- groups
-
-pub group-no : (c r n : ℕ) (x : GroupRow) (h : Bool) → h ≡ headedBy c r x → not h ≡ true → false ≡ groupIs c r n x
-unfolding groupIs
-group-no c r n x h e m = rw (sym e ∙ not-true h m)
-
-pub group-long : (c r n : ℕ) (x : GroupRow) (h : Bool) (l : List ℕ) → h ≡ headedBy c r x → not h ≡ false → l ≡ x .regs → eqb (length l) n ≡ groupIs c r n x
-unfolding groupIs
-group-long c r n x h l e m q = rw (sym e ∙ not-false h m, q)
-
-pub groups-start : (t : List ℕ) (c r n m : ℕ) → m ≡ countIn t 3 → any (λ j. groupIs c r n (groupRow (sheetIn t) j)) (from 0 (m - 0)) ≡ beginsGroup (sheetIn t) c r n
-unfolding beginsGroup groupIs
-groups-start t c r n m e =
-    ap (λ (m : ℕ). any (λ j. groupIs c r n (groupRow (sheetIn t) j)) (from 0 m)) (sub-zero m ∙ e ∙ sym (long-of (groups-are t)))
-    ∙ sym (any-numbers (groupIs c r n) (record { class = 0; regs = [] }) (sheetIn t .groups))
 
 module _ (sh : Sheet) (o : Operand) (v : ℕ) where
   abbrev groupBy : Place → Bool

@@ -21,15 +21,18 @@ use Rattle.bits.proofs.Members.{has-setOf, setOf-same}
 use Rattle.entity.specs.declared.forms.Edit.{Edit}
 use Rattle.entity.specs.declared.forms.Edit.the-variants.{Move, Remat, Espill, Ereload, Misplaced, Nothing}
 use Rattle.entity.specs.declared.forms.Place.{Place}
+use Rattle.entity.specs.declared.forms.Place.the-variants.{Reg, Slot}
 use Rattle.entity.specs.declared.numbers.Value.{Value}
 use Rattle.entity.specs.declared.numbers.PhysReg.{PhysReg}
 use Rattle.entity.specs.declared.numbers.SpillSlot.{SpillSlot}
+use Rattle.rules.specs.Cells.{word, find, words}
+use Rattle.rules.specs.Words.{moveWord, rematWord, espillWord, ereloadWord}
 use Rattle.rules.specs.Rows.{first}
-use Rattle.rules.specs.Sheet.{Sheet, RegRow, EditRow, regCount, blockCount, instCount, homeOf, unitsOf, instsOf, totalOf}
+use Rattle.rules.specs.Sheet.{Sheet, RegRow, EditRow, placeOf, espillOf, ereloadOf, editOf, regCount, blockCount, instCount, homeOf, unitsOf, instsOf, totalOf}
 use Rattle.rules.specs.Accept.{withinLimits, unitsWithin, editNames, slotExists, regExists, inOrder, placed, paired, editsIn, noHome, apart, pairHolds, editsHold}
 use Rattle.rules.proofs.Refusals.{in-limits, all-named, each-named}
 use Rattle.table.specs.Layout.{editIndex, instIndex}
-use Rattle.table.specs.Rows.{countIn}
+use Rattle.table.specs.Rows.{countIn, kindRow}
 use Rattle.table.specs.Sheet.{rowsAt, sheetIn}
 use Rattle.table.specs.Index.{before, rangeIn, NeverFalls, Ready}
 use Rattle.table.specs.View.{editRow, slotFound}
@@ -45,7 +48,7 @@ use Rattle.table.proofs.Stored.{sheet-edit-is}
 use Rattle.table.proofs.Lookups.{insts-are, edits-fall-in}
 use Rattle.table.proofs.Filling.{total-part}
 use Rattle.table.proofs.Ranges.{before-low}
-use Rattle.accept.specs.Pairs.{pairedBy, afterEdit, editsOf, isHomeOf, homeSet, sharedIn, sharedSet, pairApart, editHolds, eachHolds}
+use Rattle.accept.specs.Pairs.{pairedBy, afterEdit, isEmergency, editsOf, isHomeOf, homeSet, sharedIn, sharedSet, someEmergency, pairApart, editHolds, eachHolds}
 use Rattle.accept.specs.declared.edits.Open.{Open}
 use Rattle.accept.specs.declared.edits.Open.the-variants.{None, Spill, Broken}
 use Rattle.accept.proofs.Blockwise.{all-and}
@@ -106,6 +109,78 @@ module _ (t : List ℕ) (m n last i : ℕ) (q : m ≡ countIn t 12) (e : i ≡ e
 pub order-end : (t : List ℕ) (m n last : ℕ) → m ≡ countIn t 12 → {d : Bool} → sortedFrom last (drop n (sheetIn t .edits)) ≡ d → m ≤ n → true ≡ d
 unfolding sortedFrom
 order-end t m n last q inv h = sym (ap (sortedFrom last) (drop-of-length-le (sheetIn t .edits) {i = n} (omega (arith, long-of (edits-are t))))) ∙ inv
+
+-- ---- emergencies
+
+espill-is : (a b : Place) → isEmergency (espillOf a b) ≡ true
+unfolding isEmergency espillOf
+espill-is (Slot s) (Reg r) = refl
+espill-is (Slot s) (Slot q) = refl
+espill-is (Reg r) b = refl
+
+ereload-is : (a b : Place) → isEmergency (ereloadOf a b) ≡ true
+unfolding isEmergency ereloadOf
+ereload-is (Reg r) (Slot s) = refl
+ereload-is (Reg r) (Reg q) = refl
+ereload-is (Slot s) b = refl
+
+emergency-of : (k to p v : ℕ) → (eqb k espillWord || eqb k ereloadWord) ≡ isEmergency (editOf k to p v)
+unfolding isEmergency editOf word find words
+emergency-of k to p v =
+    by-eq k moveWord (λ e. rw e)
+    (λ a.
+    by-eq k rematWord (λ e. rw e)
+    (λ b.
+    by-eq k espillWord (λ e. rw e (sym (espill-is (placeOf to) (placeOf p))))
+    (λ c.
+    by-eq k ereloadWord (λ e. rw e (sym (ereload-is (placeOf to) (placeOf p))))
+    (λ d. rw (ne-eqb k moveWord a, ne-eqb k rematWord b, ne-eqb k espillWord c, ne-eqb k ereloadWord d)))))
+
+pub emergency-row : (t : List ℕ) (n w : ℕ) → w ≡ getD (kindRow t 12 n) 2 0 → (eqb w espillWord || eqb w ereloadWord) ≡ isEmergency (editRow (sheetIn t) n .edit)
+unfolding editAtRow
+emergency-row t n w e =
+    let r = kindRow t 12 n in
+    ap (λ (w : ℕ). eqb w espillWord || eqb w ereloadWord) e ∙ emergency-of (getD r 2 0) (getD r 3 0) (getD r 4 0) (getD r 5 0) ∙ ap isEmergency (sym (sheet-edit-is t n (record { at = 0; edit = Nothing }) refl))
+
+pub emergencies-start : (t : List ℕ) (m : ℕ) → m ≡ countIn t 12 → any (λ n. isEmergency (editRow (sheetIn t) n .edit)) (from 0 (m - 0)) ≡ someEmergency (sheetIn t)
+unfolding someEmergency
+emergencies-start t m e =
+    ap (λ (m : ℕ). any (λ n. isEmergency (editRow (sheetIn t) n .edit)) (from 0 m)) (sub-zero m ∙ e ∙ sym (long-of (edits-are t)))
+    ∙ sym (any-numbers (λ (e : EditRow). isEmergency (e .edit)) (record { at = 0; edit = Nothing }) (sheetIn t .edits))
+
+-- of any other edit nothing is asked
+other-holds : (sh : Sheet) (e : Edit) → isEmergency e ≡ false → editHolds sh e ≡ true
+unfolding isEmergency editHolds placed pairHolds
+other-holds sh (Move to p v) q = refl
+other-holds sh (Remat to v) q = refl
+other-holds sh (Espill s r) q = never (sym q)
+other-holds sh (Ereload r s) q = never (sym q)
+other-holds sh (Misplaced to p) q = never (sym q)
+other-holds sh Nothing q = refl
+
+other-paired : (e : Edit) (es : List Edit) → isEmergency e ≡ false → paired none (e ∷ es) ≡ paired none es
+unfolding isEmergency paired
+other-paired (Move to p v) es q = refl
+other-paired (Remat to v) es q = refl
+other-paired (Espill s r) es q = never (sym q)
+other-paired (Ereload r s) es q = never (sym q)
+other-paired (Misplaced to p) es q = never (sym q)
+other-paired Nothing es q = refl
+
+others-hold : (sh : Sheet) (es : List EditRow) → any (λ e. isEmergency (e .edit)) es ≡ false → all (λ e. editHolds sh (e .edit)) es ≡ true
+unfolding any all
+others-hold sh [] q = refl
+others-hold sh (e ∷ es) q =
+    by-bool (isEmergency (e .edit)) (λ p. let z : true ≡ false = rw p at q in never (sym z)) (λ p. rw (other-holds sh (e .edit) p) (others-hold sh es (rw p at q)))
+
+others-paired : (f : EditRow → Bool) (es : List EditRow) → any (λ e. isEmergency (e .edit)) es ≡ false → paired none (map (λ e. e .edit) (keep f es)) ≡ true
+unfolding any keep paired
+others-paired f [] q = refl
+others-paired f (e ∷ es) q =
+    by-bool (isEmergency (e .edit)) (λ p. let z : true ≡ false = rw p at q in never (sym z))
+    (λ p.
+    let z = others-paired f es (rw p at q) in
+    by-bool (f e) (λ h. rw h (other-paired (e .edit) (map (λ e. e .edit) (keep f es)) p ∙ z)) (λ h. rw h z))
 
 -- ---- pairs
 
@@ -287,20 +362,23 @@ module _ (t : List ℕ) where
   unfolding any from sharedIn
   shared-none s e = (e, e)
 
-  pub seen-next : (r : ℕ) (s x : NumberSet) (l : List ℕ) → l ≡ unitsOf (sheetIn t) r → s ≡ setOf (λ k. any (unitIn (sheetIn t) k) (from 0 r)) → x ≡ setOf (λ k. has s k || isIn k l)
-      → x ≡ setOf (λ k. any (unitIn (sheetIn t) k) (from 0 (r + 1)))
-  seen-next r s x l e i z =
-      z
-      ∙ setOf-same (λ k. has s k || isIn k l) (λ k. any (unitIn (sheetIn t) k) (from 0 (r + 1)))
-      (λ k h. rw (i, has-setOf (λ k. any (unitIn (sheetIn t) k) (from 0 r)) k h, e) (sym (any-more (unitIn (sheetIn t) k) r)))
+  -- the units of register r
+  own-is : (r : ℕ) {none o : NumberSet} {l : List ℕ} → none ≡ setOf (λ k. false) → l ≡ unitsOf (sheetIn t) r → o ≡ setOf (λ k. has none k || isIn k l) → (k : ℕ) → k < setLimit → has o k ≡ unitIn (sheetIn t) k r
+  own-is r {none} {o} {l} n e z k h = rw (z, has-setOf (λ k. has none k || isIn k l) k h, n, has-setOf (λ k. false) k h, e)
 
-  pub shared-next : (r : ℕ) (s y x : NumberSet) (l : List ℕ) → l ≡ unitsOf (sheetIn t) r → s ≡ setOf (λ k. any (unitIn (sheetIn t) k) (from 0 r)) → y ≡ setOf (sharedIn (sheetIn t) r)
-      → x ≡ setOf (λ k. has y k || (has s k && isIn k l)) → x ≡ setOf (sharedIn (sheetIn t) (r + 1))
-  unfolding sharedIn
-  shared-next r s y x l e i j z =
-      z
-      ∙ setOf-same (λ k. has y k || (has s k && isIn k l)) (sharedIn (sheetIn t) (r + 1))
-      (λ k h. rw (add-one r, i, j, has-setOf (λ k. any (unitIn (sheetIn t) k) (from 0 r)) k h, has-setOf (sharedIn (sheetIn t) r) k h, e))
+  module _ (r : ℕ) {none s o : NumberSet} {l : List ℕ} (n : none ≡ setOf (λ k. false)) (e : l ≡ unitsOf (sheetIn t) r) (z : o ≡ setOf (λ k. has none k || isIn k l)) (i : s ≡ setOf (λ k. any (unitIn (sheetIn t) k) (from 0 r))) where
+    pub seen-next : {x : NumberSet} → x ≡ setOf (λ k. has s k || has o k) → x ≡ setOf (λ k. any (unitIn (sheetIn t) k) (from 0 (r + 1)))
+    seen-next q =
+        q
+        ∙ setOf-same (λ k. has s k || has o k) (λ k. any (unitIn (sheetIn t) k) (from 0 (r + 1)))
+        (λ k h. rw (own-is r n e z k h, i, has-setOf (λ k. any (unitIn (sheetIn t) k) (from 0 r)) k h) (sym (any-more (unitIn (sheetIn t) k) r)))
+
+    pub shared-next : {y w x : NumberSet} → y ≡ setOf (sharedIn (sheetIn t) r) → w ≡ setOf (λ k. has s k && has o k) → x ≡ setOf (λ k. has y k || has w k) → x ≡ setOf (sharedIn (sheetIn t) (r + 1))
+    unfolding sharedIn
+    shared-next {y} {w} j m q =
+        q
+        ∙ setOf-same (λ k. has y k || has w k) (sharedIn (sheetIn t) (r + 1))
+        (λ k h. rw (add-one r, m, has-setOf (λ k. has s k && has o k) k h, own-is r n e z k h, i, j, has-setOf (λ k. any (unitIn (sheetIn t) k) (from 0 r)) k h, has-setOf (sharedIn (sheetIn t) r) k h))
 
   pub shared-end : (r m : ℕ) (x : NumberSet) → m ≡ countIn t 1 → r ≤ m → m ≤ r → x ≡ setOf (sharedIn (sheetIn t) r) → x ≡ sharedSet (sheetIn t)
   unfolding sharedSet
@@ -480,6 +558,13 @@ edits-hold sh =
     regroup false p h a = refl
 
 module _ {H : Type 0} (sh : Sheet) where
+  pub none-asked : (x y : Bool) → x ≡ inOrder (sh .edits) → not x ≡ false → y ≡ someEmergency sh → not y ≡ true → H → true ≡ editsHold sh
+  unfolding someEmergency eachHolds editsIn
+  none-asked x y e n f m g =
+      let q = sym f ∙ not-true y m in
+      rw (sym e ∙ not-false x n, others-hold sh (sh .edits) q, all-each (λ b. paired none (editsIn sh b)) 0 (from 0 (blockCount sh)) (λ j u. others-paired (λ e. isIn (e .at) (instsOf sh (getD (from 0 (blockCount sh)) j 0))) (sh .edits) q))
+      at (edits-hold sh)
+
   pub unordered : (x : Bool) → x ≡ inOrder (sh .edits) → not x ≡ true → H → false ≡ editsHold sh
   unordered x e n g = rw (sym e ∙ not-true x n) at (edits-hold sh)
 

@@ -1,10 +1,10 @@
--- For `all_reached` of `src/blocks.rt` and its steps, and for the theorem `steps_are_enough`: the blocks that an entry reaches, as a set and by steps.
+-- For `lowest_unreached` of `src/blocks.rt` and its steps, and for the theorem `steps_are_enough`: the blocks that an entry reaches, as a set and by steps.
 -- Assumes nothing.
 use mathlib.Core.Path.{_≡_, refl, sym, ap, _∙_}
 use mathlib.Core.Bool.{Bool, true, false, _&&_, _||_, or-false, or-true, and-false, or-assoc}
-use mathlib.Core.List.{List, [], _∷_, _++_, flatMap}
+use mathlib.Core.List.{List, [], _∷_}
 use mathlib.Core.Logic.{_⊎_, inl, inr, ⊎-elim, _↔_}
-use Prim.Native.Nat.{ℕ, zero, suc, _+_, _-_, _≤_, _<_}
+use Prim.Native.Nat.{ℕ, zero, suc, _+_, _≤_, _<_}
 use native.Mathlib.Nat.{zero-add}
 use native.Mathlib.Numerals.{add-one}
 use native.Mathlib.Omega.{arith}
@@ -14,24 +14,22 @@ use borrow.Author.Tests.{lt-ltb, le-ltb, eq-eqb, ne-eqb, ltb-true, eqb-true}
 use Rattle.laws.specs.Lists.{all, any, keep, isIn, from}
 use Rattle.laws.proofs.Cases.{by-bool, by-lt, by-eq, same-test}
 use Rattle.laws.proofs.Lists.{keep-in, from-long}
-use Rattle.entity.specs.Limits.{blockLimit}
-use Rattle.bits.specs.Sets.{has, setOf}
+use Rattle.bits.specs.Sets.{has, setOf, setLimit}
 use Rattle.bits.specs.declared.sets.NumberSet.{NumberSet}
 use Rattle.bits.proofs.Members.{has-setOf, setOf-same}
-use Rattle.rules.specs.Sheet.{Sheet, ListRow, blockCount, succsOf, listAt}
-use Rattle.rules.specs.Accept.{isEntry, blocksFrom0, blockExists, further, reachedIn, isReached, eachBlock, Reached, entry, next}
+use Rattle.rules.specs.Sheet.{Sheet, blockCount, succsOf}
+use Rattle.rules.specs.Accept.{isEntry, blocksFrom0, further, reachedIn, isReached, eachBlock, Reached, entry, next}
 use Rattle.entity.specs.declared.sets.FoundBlock.{FoundBlock}
 use Rattle.entity.specs.declared.sets.FoundBlock.the-variants.{Nothing}
-use Rattle.rules.proofs.Refusals.{in-limits, all-named, each-named}
+use Rattle.rules.proofs.Refusals.{in-limits}
 use Rattle.table.specs.Rows.{countIn}
 use Rattle.table.specs.Sheet.{sheetIn}
 use Rattle.table.specs.Index.{Ready}
 use Rattle.table.proofs.Loops.{and-left, and-right, and-both, never, all-at, all-each, any-hit}
 use Rattle.table.proofs.Beginnings.{from-at}
 use Rattle.table.proofs.Sheets.{blocks-counted}
-use Rattle.accept.specs.Blocks.{reachSet, lowestOf}
-use Rattle.accept.proofs.Blockwise.{}
-use Rattle.accept.proofs.Lowest.{lowest-none, lowest-all}
+use Rattle.accept.specs.Blocks.{grown, reachSet, lowestOf}
+use Rattle.accept.proofs.Lowest.{lowest-none, lowest-all, lowest-same}
 
 pub or-cases : {C : Type 0} (a b : Bool) → (a || b) ≡ true → (a ≡ true → C) → (b ≡ true → C) → C
 or-cases true b e f g = f refl
@@ -108,32 +106,6 @@ module _ (sh : Sheet) where
   reached-later zero m k e = let z : m + 0 ≡ m = omega arith in rw z e
   reached-later (suc d) m k e = let z : m + suc d ≡ suc (m + d) = omega arith in rw z (reached-more (m + d) k (reached-later d m k e))
 
-  pub each-later : (m : ℕ) → m ≤ n → eachBlock sh (λ b. isIn b (R m)) ≡ true → eachBlock sh (isReached sh) ≡ true
-  unfolding eachBlock isReached
-  each-later m h e =
-      let z : m + (n - m) ≡ n = omega arith in
-      all-each (λ b. isIn b (R n)) 0 (blocksFrom0 sh)
-      (λ j u. rw z at (reached-later (n - m) m (getD (blocksFrom0 sh) j 0) (all-at (λ b. isIn b (R m)) 0 (blocksFrom0 sh) e j u)))
-
-  pub all-reached : (m : ℕ) → m ≡ n → lowestOf sh (λ b. isIn b (R m)) ≡ lowestOf sh (isReached sh)
-  unfolding isReached
-  all-reached m e = ap (λ (m : ℕ). lowestOf sh (λ b. isIn b (R m))) e
-
-  -- the successors' test, over all blocks
-  pub succs-any : (m k : ℕ) → any (λ a. isIn a (R m) && isIn k (succsOf sh a)) (from 0 n) ≡ any (λ a. isIn k (succsOf sh a)) (R m)
-  succs-any m k =
-      same-test _ _
-      (λ e.
-      let w = from-some (λ a. isIn a (R m) && isIn k (succsOf sh a)) n e in
-      let p : isIn (w .0) (R m) ≡ true = and-left (isIn (w .0) (R m)) (isIn k (succsOf sh (w .0))) (w .2) in
-      let q : isIn k (succsOf sh (w .0)) ≡ true = and-right (isIn (w .0) (R m)) (isIn k (succsOf sh (w .0))) (w .2) in
-      in-any (λ a. isIn k (succsOf sh a)) (R m) (w .0) p q)
-      (λ e.
-      let w = any-at (λ a. isIn k (succsOf sh a)) 0 (R m) e in
-      let x = getD (R m) (w .0) 0 in
-      let p : isIn x (R m) ≡ true = in-hit (R m) (w .0) (w .1) in
-      from-hit (λ a. isIn a (R m) && isIn k (succsOf sh a)) n x (reached-below m x p) (and-both (isIn x (R m)) (isIn k (succsOf sh x)) p (w .2)))
-
 -- ---- as sets
 
 any-last : (f : ℕ → Bool) (a n : ℕ) → any f (from a (suc n)) ≡ (any f (from a n) || f (a + n))
@@ -146,45 +118,12 @@ any-last f a (suc n) =
 pub any-more : (f : ℕ → Bool) (b : ℕ) → any f (from 0 (b + 1)) ≡ (any f (from 0 b) || f b)
 any-more f b = ap (λ (m : ℕ). any f (from 0 m)) (add-one b) ∙ any-last f 0 b ∙ ap (λ (m : ℕ). any f (from 0 b) || f m) (omega arith)
 
--- what a list of rows lists
-any-append : {A : Type 0} (f : A → Bool) (l r : List A) → any f (l ++ r) ≡ (any f l || any f r)
-unfolding any
-any-append f [] r = refl
-any-append f (x ∷ l) r = rw (any-append f l r) (sym (or-assoc (f x) (any f l) (any f r)))
-
-listed-in : (sh : Sheet) (p : ListRow → Bool) (q : ℕ → Bool) (rows : List ListRow) (a k : ℕ) → all (λ s. p s && all q (s .list)) rows ≡ true → isIn k (listAt sh rows a) ≡ true → q k ≡ true
-unfolding all isIn any listAt keep flatMap
-listed-in sh p q [] a k e h = never h
-listed-in sh p q (r ∷ rows) a k e h =
-    let here = and-right (p r) (all q (r .list)) (and-left (p r && all q (r .list)) (all (λ s. p s && all q (s .list)) rows) e) in
-    let rest = and-right (p r && all q (r .list)) (all (λ s. p s && all q (s .list)) rows) e in
-    by-bool (eqb (r .at) a)
-    (λ t.
-    or-cases (isIn k (r .list)) (isIn k (listAt sh rows a)) (sym (any-append (eqb k) (r .list) (listAt sh rows a)) ∙ rw t at h)
-    (λ z. let w = any-at (eqb k) 0 (r .list) z in rw (eqb-true k (getD (r .list) (w .0) 0) (w .2)) (all-at q 0 (r .list) here (w .0) (w .1)))
-    (λ z. listed-in sh p q rows a k rest z))
-    (λ t. listed-in sh p q rows a k rest (rw t at h))
-
 module _ {t : List ℕ} (g : Ready t) where
   abbrev sh : Sheet
   sh = sheetIn t
 
-  few : blockCount sh ≤ blockLimit
-  few = in-limits sh (g .limits) .few-blocks
-
-  succ-below : (a k : ℕ) → isIn k (succsOf sh a) ≡ true → k < blockCount sh
-  succ-below a k e = ltb-true k (blockCount sh) (listed-in sh (λ s. blockExists sh (s .at)) (blockExists sh) (sh .succs) a k (each-named sh (all-named sh (g .names)) .succs) e)
-
-  -- membership in the set of those reached
-  pub reach-has : (s : NumberSet) (m b c : ℕ) → s ≡ reachSet sh m → c ≡ countIn t 6 → b < c → has s b ≡ isIn b (reachedIn sh m)
-  unfolding reachSet
-  reach-has s m b c e q h = rw e (has-setOf (λ k. isIn k (reachedIn sh m)) b (omega (arith, few, blocks-counted t q)))
-
-  pub reached-early : (m c : ℕ) → c ≡ countIn t 6 → m ≤ c → {f : FoundBlock} → f ≡ lowestOf sh (λ b. isIn b (reachedIn sh m)) → f ≡ Nothing → Nothing ≡ lowestOf sh (isReached sh)
-  reached-early m c q l e z = sym (lowest-all sh (isReached sh) (each-later sh m (omega (arith, blocks-counted t q)) (lowest-none sh (λ b. isIn b (reachedIn sh m)) (sym e ∙ z))))
-
-  pub reached-last : (m c : ℕ) → c ≡ countIn t 6 → m ≤ c → c ≤ m → {f : FoundBlock} → f ≡ lowestOf sh (λ b. isIn b (reachedIn sh m)) → f ≡ lowestOf sh (isReached sh)
-  reached-last m c q l u e = e ∙ all-reached sh m (omega (arith, blocks-counted t q))
+  few : blockCount sh ≤ setLimit
+  few = omega (arith, in-limits sh (g .limits) .few-blocks)
 
   -- the entries up to b
   abbrev pub Entries : ℕ → NumberSet → Type 0
@@ -213,47 +152,6 @@ module _ {t : List ℕ} (g : Ready t) where
   pub entries-end : (s : NumberSet) (b c : ℕ) → c ≡ countIn t 6 → b ≤ c → c ≤ b → Entries b s → s ≡ reachSet sh 0
   unfolding reachSet
   entries-end s b c q l u i = let z : b ≡ blockCount sh = omega (arith, blocks-counted t q) in rw z at i ∙ setOf-same (λ k. ltb k (blockCount sh) && isEntry sh k) (λ k. isIn k (reachedIn sh 0)) (λ k h. sym (reached-start sh k))
-
-  -- one step further, from the blocks up to b
-  abbrev stepped : ℕ → ℕ → ℕ → Bool
-  stepped m b k = isIn k (reachedIn sh m) || any (λ a. isIn a (reachedIn sh m) && isIn k (succsOf sh a)) (from 0 b)
-
-  abbrev pub Stepped : ℕ → ℕ → NumberSet → Type 0
-  Stepped m b s = s ≡ setOf (stepped m b)
-
-  pub stepped-none : (m : ℕ) (s : NumberSet) → s ≡ reachSet sh m → Stepped m 0 s
-  unfolding reachSet any from
-  stepped-none m s e = e ∙ setOf-same (λ k. isIn k (reachedIn sh m)) (stepped m 0) (λ k h. sym (or-false (isIn k (reachedIn sh m))))
-
-  pub stepped-hit : (m b : ℕ) (s s′ : NumberSet) (l : List ℕ) → Stepped m b s → isIn b (reachedIn sh m) ≡ true → l ≡ succsOf sh b → s′ ≡ setOf (λ k. has s k || isIn k l) → Stepped m (b + 1) s′
-  stepped-hit m b s s′ l i e z q =
-      q
-      ∙ setOf-same (λ k. has s k || isIn k l) (stepped m (b + 1))
-      (λ k h.
-      rw (i, has-setOf (stepped m b) k h, z, any-more (λ a. isIn a (reachedIn sh m) && isIn k (succsOf sh a)) b, e)
-      (or-assoc (isIn k (reachedIn sh m)) (any (λ a. isIn a (reachedIn sh m) && isIn k (succsOf sh a)) (from 0 b)) (isIn k (succsOf sh b))))
-
-  pub stepped-miss : (m b : ℕ) (s : NumberSet) → Stepped m b s → isIn b (reachedIn sh m) ≡ false → Stepped m (b + 1) s
-  stepped-miss m b s i e =
-      i ∙ setOf-same (stepped m b) (stepped m (b + 1)) (λ k h. rw (any-more (λ a. isIn a (reachedIn sh m) && isIn k (succsOf sh a)) b, e, or-false))
-
-  pub stepped-end : (m : ℕ) (s : NumberSet) (b c : ℕ) → c ≡ countIn t 6 → b ≤ c → c ≤ b → Stepped m b s → s ≡ reachSet sh (m + 1)
-  unfolding reachSet
-  stepped-end m s b c q l u i =
-      let z : b ≡ blockCount sh = omega (arith, blocks-counted t q) in
-      rw z at i
-      ∙ setOf-same (stepped m (blockCount sh)) (λ k. isIn k (reachedIn sh (m + 1)))
-      (λ k h.
-      rw (add-one m, reached-next sh m k, succs-any sh m k)
-      (by-lt k (blockCount sh) (λ l. rw (lt-ltb k (blockCount sh) l))
-      (λ l.
-      rw (le-ltb k (blockCount sh) l)
-      (by-bool (isIn k (reachedIn sh m) || any (λ a. isIn k (succsOf sh a)) (reachedIn sh m))
-      (λ e.
-      or-cases (isIn k (reachedIn sh m)) (any (λ a. isIn k (succsOf sh a)) (reachedIn sh m)) e
-      (λ z. absurd (omega (arith, reached-below sh m k z)))
-      (λ z. let w = any-at (λ a. isIn k (succsOf sh a)) 0 (reachedIn sh m) z in absurd (omega (arith, succ-below (getD (reachedIn sh m) (w .0) 0) k (w .2)))))
-      (λ e. e)))))
 
 -- ---- as many steps as there are blocks are enough
 
@@ -379,3 +277,109 @@ module _ (sh : Sheet) where
         all-each (λ b. isIn b (reachedIn sh (blockCount sh))) 0 (blocksFrom0 sh)
         (λ j u. let h : j < blockCount sh = rw (from-long 0 (blockCount sh)) at u in rw (block-at j h) (steps-complete (f j h))),
   )
+
+-- ---- the code's sets have what is reached by as many steps, and nothing that is not reached
+
+module _ (sh : Sheet) where
+  pub grown-hit : (s all all′ : NumberSet) (b : ℕ) (l : List ℕ) → all ≡ grown sh s b → has all b ≡ true → l ≡ succsOf sh b → all′ ≡ setOf (λ k. has all k || isIn k l) → all′ ≡ grown sh s (b + 1)
+  unfolding grown
+  grown-hit s all all′ b l i e z q = rw (add-one b, ← i, e, ← z) q
+
+  pub grown-miss : (s all : NumberSet) (b : ℕ) → all ≡ grown sh s b → has all b ≡ false → all ≡ grown sh s (b + 1)
+  unfolding grown
+  grown-miss s all b i e = rw (add-one b, ← i, e)
+
+  pub reach-next : (m : ℕ) (s x : NumberSet) → s ≡ reachSet sh m → x ≡ grown sh s (blockCount sh) → x ≡ reachSet sh (m + 1)
+  unfolding reachSet
+  reach-next m s x i e = rw (add-one m, ← i) e
+
+  module _ (s : NumberSet) where
+    grown-more : (b k : ℕ) → k < setLimit → has (grown sh s b) k ≡ true → has (grown sh s (suc b)) k ≡ true
+    unfolding grown
+    grown-more b k l e =
+        by-bool (has (grown sh s b) b)
+        (λ p. rw p (has-setOf (λ k. has (grown sh s b) k || isIn k (succsOf sh b)) k l ∙ or-left (has (grown sh s b) k) (isIn k (succsOf sh b)) e))
+        (λ p. rw p e)
+
+    grown-keeps : (b k : ℕ) → k < setLimit → has s k ≡ true → has (grown sh s b) k ≡ true
+    unfolding grown
+    grown-keeps zero k l e = e
+    grown-keeps (suc b) k l e = grown-more b k l (grown-keeps b k l e)
+
+    grown-adds : (b a k : ℕ) → a < b → a < setLimit → k < setLimit → has s a ≡ true → isIn k (succsOf sh a) ≡ true → has (grown sh s b) k ≡ true
+    unfolding grown
+    grown-adds zero a k h m l e q = absurd (omega arith)
+    grown-adds (suc b) a k h m l e q =
+        by-eq a b
+        (λ z.
+        let p : has (grown sh s b) b ≡ true = grown-keeps b b (rw z at m) (rw z at e) in
+        rw p (has-setOf (λ k. has (grown sh s b) k || isIn k (succsOf sh b)) k l ∙ or-right (has (grown sh s b) k) (isIn k (succsOf sh b)) (rw z at q)))
+        (λ d. grown-more b k l (grown-adds b a k (omega arith) m l e q))
+
+  next-reached : (a k : ℕ) → isReached sh a ≡ true → k < blockCount sh → isIn k (succsOf sh a) ≡ true → isReached sh k ≡ true
+  unfolding isReached Closed
+  next-reached a k e h q =
+      closed-last sh k
+      (reached-next sh (blockCount sh) k
+      ∙ and-both (ltb k (blockCount sh)) (isIn k (reachedIn sh (blockCount sh)) || any (λ a. isIn k (succsOf sh a)) (reachedIn sh (blockCount sh))) (lt-ltb k (blockCount sh) h)
+      (or-right (isIn k (reachedIn sh (blockCount sh))) (any (λ a. isIn k (succsOf sh a)) (reachedIn sh (blockCount sh))) (in-any (λ a. isIn k (succsOf sh a)) (reachedIn sh (blockCount sh)) a e q)))
+
+  module _ (few : blockCount sh ≤ setLimit) where
+    abbrev OnlyReached : NumberSet → Type 0
+    OnlyReached s = (k : ℕ) → k < blockCount sh → has s k ≡ true → isReached sh k ≡ true
+
+    grown-only : (s : NumberSet) → OnlyReached s → (b : ℕ) → b ≤ blockCount sh → OnlyReached (grown sh s b)
+    unfolding grown
+    grown-only s o zero u k h e = o k h e
+    grown-only s o (suc b) u k h e =
+        by-bool (has (grown sh s b) b)
+        (λ p.
+        or-cases (has (grown sh s b) k) (isIn k (succsOf sh b)) (sym (has-setOf (λ k. has (grown sh s b) k || isIn k (succsOf sh b)) k (omega arith)) ∙ rw p at e)
+        (λ z. grown-only s o b (omega arith) k h z)
+        (λ z. next-reached b k (grown-only s o b (omega arith) b (omega arith) p) h z))
+        (λ p. grown-only s o b (omega arith) k h (rw p at e))
+
+    reach-only : (m : ℕ) → OnlyReached (reachSet sh m)
+    unfolding reachSet isReached
+    reach-only zero k h e = rw zero-add at (reached-later sh (blockCount sh) 0 k (sym (has-setOf (λ k. isIn k (reachedIn sh 0)) k (omega arith)) ∙ e))
+    reach-only (suc m) k h e = grown-only (reachSet sh m) (reach-only m) (blockCount sh) (omega arith) k h e
+
+    reach-each : (m k : ℕ) → isIn k (reachedIn sh m) ≡ true → has (reachSet sh m) k ≡ true
+    unfolding reachSet
+    reach-each zero k e = has-setOf (λ k. isIn k (reachedIn sh 0)) k (omega (arith, reached-below sh 0 k e)) ∙ e
+    reach-each (suc m) k e =
+        let h = reached-below sh (suc m) k e in
+        or-cases (isIn k (reachedIn sh m)) (any (λ a. isIn k (succsOf sh a)) (reachedIn sh m))
+        (and-right (ltb k (blockCount sh)) (isIn k (reachedIn sh m) || any (λ a. isIn k (succsOf sh a)) (reachedIn sh m)) (sym (reached-next sh m k) ∙ e))
+        (λ z. grown-keeps (reachSet sh m) (blockCount sh) k (omega arith) (reach-each m k z))
+        (λ z.
+        let w = any-at (λ a. isIn k (succsOf sh a)) 0 (reachedIn sh m) z in
+        let a = getD (reachedIn sh m) (w .0) 0 in
+        let p : isIn a (reachedIn sh m) ≡ true = in-hit (reachedIn sh m) (w .0) (w .1) in
+        let l : a < blockCount sh = reached-below sh m a p in
+        grown-adds (reachSet sh m) (blockCount sh) a k l (omega arith) (omega arith) (reach-each m a p) (w .2))
+
+    pub reach-is : (k : ℕ) → k < blockCount sh → has (reachSet sh (blockCount sh)) k ≡ isReached sh k
+    unfolding isReached
+    reach-is k h = same-test _ _ (reach-only (blockCount sh) k h) (reach-each (blockCount sh) k)
+
+pub grown-end : (t : List ℕ) (s x : NumberSet) (b c : ℕ) → c ≡ countIn t 6 → b ≤ c → c ≤ b → x ≡ grown (sheetIn t) s b → x ≡ grown (sheetIn t) s (blockCount (sheetIn t))
+grown-end t s x b c q l u i = let z : b ≡ blockCount (sheetIn t) = omega (arith, blocks-counted t q) in rw z at i
+
+module _ {t : List ℕ} (g : Ready t) where
+  pub reached-early : (s : NumberSet) (m : ℕ) → s ≡ reachSet (sheetIn t) m → {f : FoundBlock} → f ≡ lowestOf (sheetIn t) (has s) → f ≡ Nothing → Nothing ≡ lowestOf (sheetIn t) (isReached (sheetIn t))
+  unfolding eachBlock
+  reached-early s m q e z =
+      let sh = sheetIn t in
+      let all-has : eachBlock sh (has s) ≡ true = lowest-none sh (has s) (sym e ∙ z) in
+      sym
+      (lowest-all sh (isReached sh)
+      (all-each (isReached sh) 0 (blocksFrom0 sh)
+      (λ j u.
+      let h : j < blockCount sh = rw (from-long 0 (blockCount sh)) at u in
+      rw (block-at sh j h) (reach-only sh (few g) m j h (rw (block-at sh j h, q) at (all-at (has s) 0 (blocksFrom0 sh) all-has j u))))))
+
+  pub reached-last : (s : NumberSet) (m c : ℕ) → c ≡ countIn t 6 → m ≤ c → c ≤ m → s ≡ reachSet (sheetIn t) m → {f : FoundBlock} → f ≡ lowestOf (sheetIn t) (has s) → f ≡ lowestOf (sheetIn t) (isReached (sheetIn t))
+  reached-last s m c q l u i e =
+      let z : m ≡ blockCount (sheetIn t) = omega (arith, blocks-counted t q) in
+      e ∙ lowest-same (sheetIn t) (has s) (isReached (sheetIn t)) (λ k h. rw (i, z) (reach-is (sheetIn t) (few g) k h))

@@ -1,5 +1,5 @@
 -- Refusal 6 in the steps in which the code goes: the emergency spill that is not yet closed, home slots and shared units as sets, and what is asked of one edit.
-use mathlib.Core.Bool.{Bool, false, cond, _&&_, _||_}
+use mathlib.Core.Bool.{Bool, true, false, cond, _&&_, _||_}
 use mathlib.Core.List.{List, map}
 use mathlib.Core.Option.{none, some, Option·elim}
 use Prim.Native.Nat.{ℕ, zero, suc}
@@ -31,6 +31,15 @@ afterEdit (Ereload r s) None = Broken
 afterEdit (Ereload r s) (Spill a b) = cond (eqb (a .0) (s .0) && eqb (b .0) (r .0)) None Broken
 afterEdit (Ereload r s) Broken = Broken
 
+-- an emergency spill or reload, well placed or not
+unfoldable pub isEmergency : Edit → Bool
+isEmergency (Espill s r) = true
+isEmergency (Ereload r s) = true
+isEmergency (Misplaced to p) = true
+isEmergency (Move to p v) = false
+isEmergency (Remat to v) = false
+isEmergency Nothing = false
+
 -- what the rows say
 unfoldable pub editsOf : List EditRow → List Edit
 editsOf rows = map (λ e. e .edit) rows
@@ -50,6 +59,9 @@ module _ (sh : Sheet) where
 
   unfoldable pub sharedSet : NumberSet
   sharedSet = setOf (sharedIn (regCount sh))
+
+  unfoldable pub someEmergency : Bool
+  someEmergency = any (λ e. isEmergency (e .edit)) (sh .edits)
 
   unfoldable pub pairApart : ℕ → ℕ → Bool
   pairApart s r = noHome sh s && apart sh r

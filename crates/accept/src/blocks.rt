@@ -1,16 +1,17 @@
 // Refusals 4, 9, 10, 11 and 12: the block rules, each over the whole sheet before the next, and the lowest block that breaks one. Blocks are below 64, as
 // limits and names hold: sets hold them all.
 ghost use mathlib.Core.Path.{_≡_};
-ghost use Prim.Native.Nat.{ℕ, _+_, _<_};
+ghost use Prim.Native.Nat.{_<_};
 ghost use Rattle.laws.specs.Lists.{all, isIn};
+ghost use Rattle.bits.specs.Sets.{has};
 ghost use Rattle.entity.specs.Limits.{blockLimit};
-ghost use Rattle.rules.specs.Sheet.{succsOf, predsOf};
-ghost use Rattle.rules.specs.Accept.{someEntry, filled, namedBack, entryFirst, noCriticalEdge, edgesHold, solePredSmaller, idomSmaller, smallerHold, reachedIn, isReached, rowOf};
+ghost use Rattle.rules.specs.Sheet.{blockCount, succsOf, predsOf};
+ghost use Rattle.rules.specs.Accept.{someEntry, namedBack, entryFirst, noCriticalEdge, edgesHold, solePredSmaller, idomSmaller, smallerHold, isReached, rowOf};
 ghost use Rattle.rules.specs.Answer.{firstRefusal, blockChecks};
 ghost use Rattle.table.specs.Sheet.{sheetIn};
 ghost use Rattle.table.specs.Index.{Ready};
 ghost use Rattle.graph.specs.Graph.{chosen};
-ghost use Rattle.accept.specs.Blocks.{asChecked, solePreds, keeps, reachSet, lowestOf, ReachedBySteps};
+ghost use Rattle.accept.specs.Blocks.{asChecked, solePreds, keeps, grown, reachSet, lowestOf, ReachedBySteps};
 use bits::tables::read_u32;
 use entity::forms::Refusal;
 use entity::numbers::Block;
@@ -193,15 +194,15 @@ fn entries(t: &[u32]) -> BlockSet
     s
 }
 
-// The blocks of s, and with them each that is listed as a successor of one of them.
+// The blocks of s, and with them each that is listed as a successor of one of them or of a smaller block that joined them.
 fn further(t: &[u32], s: BlockSet) -> BlockSet
-    ensures { λ x. ⌜ ((n : ℕ) → s .0 ≡ reachSet (sheetIn (now (t .entry))) n → Ready (now (t .entry)) → x .0 ≡ reachSet (sheetIn (now (t .entry))) (n + 1)) ⌝ }
+    ensures { λ x. ⌜ (Ready (now (t .entry)) → x .0 ≡ grown (sheetIn (now (t .entry))) (s .0) (blockCount (sheetIn (now (t .entry))))) ⌝ }
 {
     let blocks = count(t, Kind::BLOCK);
     let mut all = s.0;
     let mut b: u32 = 0;
     while b < blocks {
-        if s.contains(Block(b)) {
+        if all.contains(b) {
             all = with_all(all, succs(t, Block(b)));
         }
         b += 1;
@@ -211,8 +212,7 @@ fn further(t: &[u32], s: BlockSet) -> BlockSet
 
 // The lowest block that is not in s.
 fn lowest_outside(t: &[u32], s: BlockSet) -> FoundBlock
-    ensures { λ f. ⌜ ((n : ℕ) → s .0 ≡ reachSet (sheetIn (now (t .entry))) n → Ready (now (t .entry))
-        → f ≡ lowestOf (sheetIn (now (t .entry))) (λ b. isIn b (reachedIn (sheetIn (now (t .entry))) n))) ⌝ }
+    ensures { λ f. ⌜ f ≡ lowestOf (sheetIn (now (t .entry))) (has (s .0)) ⌝ }
 {
     let blocks = count(t, Kind::BLOCK);
     let mut b: u32 = 0;
@@ -242,7 +242,8 @@ fn lowest_unreached(t: &[u32]) -> FoundBlock
     lowest_outside(t, s)
 }
 
-// The `block` row of b, counted from 1 over all rows of the sheet.
+// The `block` row of b, counted from 1 over all rows of the sheet. There are at most 21,845 rows and 64 blocks, so both tests hold: they keep the sum
+// within 16 bits.
 fn block_row(t: &[u32], b: Block) -> u16
     ensures { λ r. ⌜ (Ready (now (t .entry)) → b .0 < blockLimit → r ≡ rowOf (sheetIn (now (t .entry))) (b .0)) ⌝ }
 {

@@ -1,12 +1,17 @@
 // Refusal 5: the operand rules. What an operand names is there, as 3 holds.
 ghost use mathlib.Core.Path.{_≡_};
+ghost use Prim.Native.Nat.{_≤_};
+ghost use lib.ListN.{length, take};
 ghost use Rattle.rules.specs.Sheet.{Sheet, isUse, isUseGroup};
-ghost use Rattle.rules.specs.Accept.{samePlace, kindsMatch, isFixed, inClass, reuseHolds, constraintHolds, fixedHolds, beginsGroup, groupAt, groupHolds, operandsHold};
+ghost use Rattle.rules.specs.Accept.{samePlace, kindsMatch, isFixed, inClass, reuseHolds, constraintHolds, fixedHolds, groupAt, groupHolds, operandsHold};
+ghost use Rattle.table.specs.Rows.{countIn};
 ghost use Rattle.table.specs.Sheet.{sheetIn};
 ghost use Rattle.table.specs.Index.{Ready};
 ghost use Rattle.table.specs.View.{groupRow};
 ghost use Rattle.operands.specs.Operands.{asRow};
-ghost use Rattle.accept.specs.Operands.{isClass, reuses, groupIs, operandHolds};
+ghost use Rattle.accept.specs.Operands.{isClass, reuses, headOf, headIn, headsOf, operandHolds};
+use bits::tables::read_u32;
+use bits::tables::store_u32;
 use entity::forms::Constraint;
 use entity::forms::OperandKind;
 use entity::forms::Place;
@@ -20,16 +25,20 @@ use names::lists::is_in;
 use operands::FoundClass;
 use operands::FoundOperand;
 use operands::class_for;
-use operands::headed_by;
 use operands::operand;
 use table::rows::Kind;
 use table::rows::count;
+use table::rows::part;
 use table::view::Operand;
 use table::view::class_slots;
+use table::view::group_class;
 use table::view::group_regs;
 use table::view::group_values;
 use table::view::members;
 use table::view::operand_at;
+
+// What no group has for its head.
+const NO_HEAD: u32 = 4294967295;
 
 fn same_place(p: Place, q: Place) -> bool
     ensures { λ x. ⌜ x ≡ samePlace p q ⌝ }
@@ -173,34 +182,45 @@ fn fixed_holds(o: Operand) -> bool
     }
 }
 
-// Group g is of class c, begins with register r and has `len` registers.
-fn is_group(t: &[u32], g: RegGroup, c: RegClass, r: PhysReg, len: usize) -> bool
-    ensures { λ x. ⌜ x ≡ groupIs (c .0) (r .0) len (groupRow (sheetIn (now (t .entry))) (g .0)) ⌝ }
+// Class, first register and length of a group in one number; no group has one that is too great, once limits and names hold.
+fn head(c: RegClass, r: PhysReg, len: usize) -> u32
+    ensures { λ x. ⌜ x ≡ headOf (c .0) (r .0) len ⌝ }
 {
-    if !headed_by(t, g, c, r) {
-        return false;
+    if 128 <= c.0 {
+        return NO_HEAD;
     }
-    group_regs(t, g).len() == len
+    if 256 <= r.0 {
+        return NO_HEAD;
+    }
+    if 65536 <= len {
+        return NO_HEAD;
+    }
+    c.0 * 16777216 + r.0 * 65536 + len as u32
 }
 
-// A group of class c and of `len` registers begins with register r.
-fn begins_group(t: &[u32], c: RegClass, r: PhysReg, len: usize) -> bool
-    ensures { λ x. ⌜ x ≡ beginsGroup (sheetIn (now (t .entry))) (c .0) (r .0) len ⌝ }
+fn head_in(t: &[u32], g: RegGroup) -> u32
+    ensures { λ x. ⌜ x ≡ headIn (groupRow (sheetIn (now (t .entry))) (g .0)) ⌝ }
+{
+    let regs = group_regs(t, g);
+    let class = group_class(t, g);
+    head(class, PhysReg(read_u32(regs, 0)), regs.len())
+}
+
+// The heads of the groups, each in its cell.
+fn load_heads(t: &[u32], heads: &mut [u32])
+    ensures { λ _. ⌜ (countIn (now (t .entry)) 3 ≤ length (now (heads .entry)) → take (countIn (now (t .entry)) 3) (now (heads .exit)) ≡ headsOf (sheetIn (now (t .entry)))) ⌝ }
 {
     let groups = count(t, Kind::GROUP);
     let mut g: u32 = 0;
     while g < groups {
-        if is_group(t, RegGroup(g), c, r, len) {
-            return true;
-        }
+        store_u32(heads, g as usize, head_in(t, RegGroup(g)));
         g += 1;
     }
-    false
 }
 
 // An operand of value group g begins a group of its class with the value group's length.
-fn group_at(t: &[u32], o: Operand, g: ValueGroup) -> bool
-    ensures { λ x. ⌜ (Ready (now (t .entry)) → x ≡ groupAt (sheetIn (now (t .entry))) (asRow o) (g .0)) ⌝ }
+fn group_at(t: &[u32], heads: &[u32], o: Operand, g: ValueGroup) -> bool
+    ensures { λ x. ⌜ (now (heads .entry) ≡ headsOf (sheetIn (now (t .entry))) → Ready (now (t .entry)) → x ≡ groupAt (sheetIn (now (t .entry))) (asRow o) (g .0)) ⌝ }
 {
     let p = o.place;
     let Place::Reg(r) = p else {
@@ -209,17 +229,17 @@ fn group_at(t: &[u32], o: Operand, g: ValueGroup) -> bool
     let FoundClass::At(c) = class_for(t, o) else {
         return false;
     };
-    begins_group(t, c, r, group_values(t, g).len())
+    is_in(head(c, r, group_values(t, g).len()), heads)
 }
 
-fn group_holds(t: &[u32], o: Operand) -> bool
-    ensures { λ x. ⌜ (Ready (now (t .entry)) → x ≡ groupHolds (sheetIn (now (t .entry))) (asRow o)) ⌝ }
+fn group_holds(t: &[u32], heads: &[u32], o: Operand) -> bool
+    ensures { λ x. ⌜ (now (heads .entry) ≡ headsOf (sheetIn (now (t .entry))) → Ready (now (t .entry)) → x ≡ groupHolds (sheetIn (now (t .entry))) (asRow o)) ⌝ }
 {
     let k = o.kind;
     match k {
-        OperandKind::DefGroup(g) => group_at(t, o, g),
-        OperandKind::UseGroup(g) => group_at(t, o, g),
-        OperandKind::EarlyDefGroup(g) => group_at(t, o, g),
+        OperandKind::DefGroup(g) => group_at(t, heads, o, g),
+        OperandKind::UseGroup(g) => group_at(t, heads, o, g),
+        OperandKind::EarlyDefGroup(g) => group_at(t, heads, o, g),
         OperandKind::Def(_) => true,
         OperandKind::Use(_) => true,
         OperandKind::EarlyDef(_) => true,
@@ -227,8 +247,8 @@ fn group_holds(t: &[u32], o: Operand) -> bool
     }
 }
 
-fn operand_holds(t: &[u32], o: Operand) -> bool
-    ensures { λ x. ⌜ (Ready (now (t .entry)) → x ≡ operandHolds (sheetIn (now (t .entry))) (asRow o)) ⌝ }
+fn operand_holds(t: &[u32], heads: &[u32], o: Operand) -> bool
+    ensures { λ x. ⌜ (now (heads .entry) ≡ headsOf (sheetIn (now (t .entry))) → Ready (now (t .entry)) → x ≡ operandHolds (sheetIn (now (t .entry))) (asRow o)) ⌝ }
 {
     if !constraint_holds(t, o) {
         return false;
@@ -236,19 +256,27 @@ fn operand_holds(t: &[u32], o: Operand) -> bool
     if !fixed_holds(o) {
         return false;
     }
-    group_holds(t, o)
+    group_holds(t, heads, o)
 }
 
-pub fn operands_hold(t: &[u32]) -> bool
-    ensures { λ x. ⌜ (Ready (now (t .entry)) → x ≡ operandsHold (sheetIn (now (t .entry)))) ⌝ }
+fn all_hold(t: &[u32], heads: &[u32]) -> bool
+    ensures { λ x. ⌜ (now (heads .entry) ≡ headsOf (sheetIn (now (t .entry))) → Ready (now (t .entry)) → x ≡ operandsHold (sheetIn (now (t .entry)))) ⌝ }
 {
     let ops = count(t, Kind::OP);
     let mut n: u32 = 0;
     while n < ops {
-        if !operand_holds(t, operand_at(t, OperandRow(n))) {
+        if !operand_holds(t, heads, operand_at(t, OperandRow(n))) {
             return false;
         }
         n += 1;
     }
     true
+}
+
+pub fn operands_hold(t: &[u32]) -> bool
+    ensures { λ x. ⌜ (Ready (now (t .entry)) → x ≡ operandsHold (sheetIn (now (t .entry)))) ⌝ }
+{
+    let mut heads = [0u32; RegGroup::LIMIT as usize];
+    load_heads(t, &mut heads);
+    all_hold(t, part(&heads, 0, count(t, Kind::GROUP) as usize))
 }

@@ -1,4 +1,4 @@
-// Refusal 6: the edit rules. An instruction's edits are looked up only once they stand in order.
+// Refusal 6: the edit rules. An instruction's edits are looked up only once they stand in order, and only where one of the edits is an emergency.
 ghost use mathlib.Core.Path.{_≡_};
 ghost use mathlib.Core.Bool.{Bool, true, false, _||_};
 ghost use mathlib.Core.List.{[]};
@@ -13,8 +13,11 @@ ghost use Rattle.rules.specs.Accept.{editNames, slotExists, regExists, inOrder,
 ghost use Rattle.entity.specs.declared.forms.Edit.the-variants.{Espill, Ereload};
 ghost use Rattle.table.specs.Sheet.{sheetIn};
 ghost use Rattle.table.specs.Index.{Ready};
-ghost use Rattle.accept.specs.Pairs.{pairedBy, afterEdit, editsOf, homeSet, sharedSet, editHolds, eachHolds, pairApart};
+ghost use Rattle.table.specs.View.{editRow};
+ghost use Rattle.accept.specs.Pairs.{pairedBy, afterEdit, isEmergency, editsOf, homeSet, sharedSet, someEmergency, editHolds, eachHolds, pairApart};
 use bits::sets::NumberSet;
+use bits::tables::read_u32;
+use entity::cells::Word;
 use entity::forms::Edit;
 use entity::numbers::Block;
 use entity::numbers::EditRow;
@@ -26,13 +29,13 @@ use entity::sets::SlotSet;
 use entity::sets::UnitSet;
 use names::lists::any_in;
 use names::lists::with_all;
-use names::lists::with_seen;
 use table::edits::sheet_edit;
 use table::index::Range;
 use table::index::edit_rows;
 use table::index::insts_of;
 use table::rows::Kind;
 use table::rows::count;
+use table::rows::row_of;
 use table::view::FoundSlot;
 use table::view::edit_at;
 use table::view::home;
@@ -70,6 +73,28 @@ fn placed(e: Edit) -> bool
         Edit::Misplaced { to: _, from: _ } => false,
         Edit::Nothing => true,
     }
+}
+
+// An emergency spill or reload, well placed or not.
+fn is_emergency(t: &[u32], n: EditRow) -> bool
+    ensures { λ x. ⌜ x ≡ isEmergency (editRow (sheetIn (now (t .entry))) (n .0) .edit) ⌝ }
+{
+    let word = read_u32(row_of(t, Kind::EDIT, n.0), 2);
+    (word == Word::ESPILL) | (word == Word::ERELOAD)
+}
+
+fn some_emergency(t: &[u32]) -> bool
+    ensures { λ x. ⌜ x ≡ someEmergency (sheetIn (now (t .entry))) ⌝ }
+{
+    let edits = count(t, Kind::EDIT);
+    let mut n: u32 = 0;
+    while n < edits {
+        if is_emergency(t, EditRow(n)) {
+            return true;
+        }
+        n += 1;
+    }
+    false
 }
 
 // The emergency spill that is not yet closed, or that the pairs are broken.
@@ -215,8 +240,9 @@ fn shared_units(t: &[u32]) -> UnitSet
     let mut shared = NumberSet::empty();
     let mut r: u32 = 0;
     while r < regs {
-        shared = with_seen(shared, seen, units(t, PhysReg(r)));
-        seen = with_all(seen, units(t, PhysReg(r)));
+        let own = with_all(NumberSet::empty(), units(t, PhysReg(r)));
+        shared = shared.join(seen.meet(own));
+        seen = seen.join(own);
         r += 1;
     }
     UnitSet(shared)
@@ -283,6 +309,9 @@ pub fn edits_hold(t: &[u32]) -> bool
 {
     if !in_order(t) {
         return false;
+    }
+    if !some_emergency(t) {
+        return true;
     }
     if !each_holds(t) {
         return false;

@@ -1,4 +1,4 @@
--- For `render` of src/rows.rt: what is written is the answer (`output` of rules/specs/Answer.antt), and its length fits 64 bits. Assumes nothing.
+-- For `render` of src/rows.rt: what is written is the answer (`output` of rules/specs/Answer.antt), and how long that is. Assumes nothing.
 use mathlib.Core.Path.{_≡_, refl, sym, ap, ap₂, _∙_}
 use mathlib.Core.List.{List, [], _∷_, map, flatMap, zip, map-map}
 use Prim.Native.Nat.{ℕ, _-_, _≤_, _<_}
@@ -25,13 +25,13 @@ use Rattle.table.specs.Edits.{editIn, editsIn}
 use Rattle.table.proofs.Sheets.{editRowOf, edits-are, long-of, part-of, rows-at, rows-long, members-long, members-at}
 use Rattle.table.proofs.Lookups.{edits-below}
 use Rattle.answer.specs.Text.{over, Laid}
-use Rattle.answer.specs.Rows.{editAt, countLine, rendered, Stands}
+use Rattle.answer.specs.Rows.{editAt, countLine, rendered, answerMost, Stands}
 use Rattle.table.specs.Written.{EditCells}
 use Rattle.answer.proofs.Laying.{laid-as}
 use Rattle.answer.proofs.Cells.{field-number, edit-text}
 use Rattle.answer.proofs.Runs.{flat-within}
 use Rattle.answer.proofs.Folds.{folds-are}
-use Rattle.answer.proofs.Few.{Narrow, answer-few}
+use Rattle.answer.proofs.Few.{Narrow, at-is, at-below, answer-few, most-few}
 
 -- ---- lists
 
@@ -59,17 +59,11 @@ module _ {t : List ℕ} (g : Ready t) (edits : List ℕ) where
   abbrev count : ℕ
   count = countIn t 12
 
-  at-is : (n : ℕ) → editRow (sheetIn t) n .at ≡ at n
-  at-is n = part-of (edits-are t) (λ e. e .at) n (record { at = 0; edit = Nothing }) refl
-
-  at-below : (n : ℕ) → n < count → at n < instLimit
-  at-below n h = rw (rows-at t 12 n) at (edits-below g n (rw (rows-long t 12) h))
-
   -- an edit row
   edit-is : (n : ℕ) → n < count → EditCells edits n → editText (at n) (editIn edits n) ≡ editAt t edits n
   unfolding editText editAt rowText
   edit-is n h x =
-      rw (edit-word, field-number (at n) (omega (arith, at-below n h)), at-is n, edit-text (editIn edits n) (x .small) (x .value), x .kept)
+      rw (edit-word, field-number (at n) (omega (arith, at-below g n h)), at-is t n, edit-text (editIn edits n) (x .small) (x .value), x .kept)
 
   ats-are : map (λ (e : EditRow). e .at) (sheetIn t .edits) ≡ map at (from 0 count)
   unfolding rowsAt
@@ -99,13 +93,16 @@ unfolding rendered output
 answer-is {t} {edits} {places} {counts} {w} x =
     sym (rw (folds-are (x .ready) w places (x .in-cells .is-places) (x .in-cells .place-cells), edits-written (x .ready) edits (w .edits) (x .in-cells .is-edits) (x .in-cells .edit-cells), counts-written (w .counts) counts (x .is-counts) (x .enough)))
 
+-- how long it is at most
+pub answer-most : {t edits places counts : List ℕ} {w : Walk} → Stands t edits places counts w → Narrow counts → length (output (sheetIn t) w) ≤ answerMost t
+answer-most x c = rw (answer-is x) at (answer-few x c)
+
 -- and where it lies
 module _ (t edits places counts out new : List ℕ) (r : ℕ) where
-  pub answered : Narrow edits → Narrow places → Narrow counts → Laid (rendered t edits places counts) out 0 new r → (w : Walk) → Stands t edits places counts w
+  pub answered : Narrow counts → Laid (rendered t edits places counts) out 0 new r → (w : Walk) → Stands t edits places counts w
       → (r ≡ length (output (sheetIn t) w)) × (new ≡ over out 0 (output (sheetIn t) w))
-  answered e p c l w x =
+  answered c l w x =
       let text : List ℕ = output (sheetIn t) w in
-      let m : length (rendered t edits places counts) ≤ 18446744073709551615 = answer-few (x .ready) edits places counts e p c (λ n h. rw (at-is (x .ready) edits n) (at-below (x .ready) edits n h)) in
-      let b : length text ≤ 18446744073709551615 = rw (answer-is x) at m in
+      let b : length text ≤ 18446744073709551615 = omega (arith, answer-most x c, most-few x) in
       let y = laid-as (answer-is x) l .laid (omega arith) in
       (y .1 ∙ zero-add (length text), y .0)

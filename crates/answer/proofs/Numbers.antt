@@ -1,8 +1,8 @@
--- For `put_number` of src/text.rt: the digits of a number, from its last digit and the number without it. Assumes nothing.
-use mathlib.Core.Path.{_≡_, ap, _∙_}
+-- For `put_number` of src/text.rt: the digits of a number, from its last digit and the number without it, and how many they are. Assumes nothing.
+use mathlib.Core.Path.{_≡_, refl, sym, ap, _∙_}
 use mathlib.Core.List.{List, [], _∷_, _++_}
-use Prim.Native.Nat.{ℕ, zero, suc, _+_, _/_, _%_, _≤_, _<_}
-use native.Mathlib.Nat.{div-add-mod', mod-eq-of-lt}
+use Prim.Native.Nat.{ℕ, zero, suc, _+_, _*_, _/_, _%_, _^_, _≤_, _<_}
+use native.Mathlib.Nat.{div-add-mod', mod-eq-of-lt, pow-suc}
 use native.Mathlib.Numerals.{add-one}
 use native.Mathlib.Omega.{arith}
 use borrow.Author.Tests.{lt-ltb, le-ltb}
@@ -39,14 +39,15 @@ pub digits-two : (n a b : ℕ) → a ≡ 48 + n / 10 % 10 → b ≡ 48 + n % 10 
 digits-two n a b d e h l =
     ap (λ (s : List ℕ). s ++ (b ∷ [])) (digits-one (n / 10) a d (omega (arith, div-add-mod' n 10))) ∙ digits-more n b e h
 
--- a number has no more digits than its calls
-digits-within : (calls n : ℕ) → length (digitsIn calls n) ≤ calls
-unfolding digitsIn
-digits-within zero n = omega arith
-digits-within (suc calls) n =
-    by-lt n 10 (λ u. rw (lt-ltb n 10 u, digitsIn) (omega arith))
-    (λ u. rw (le-ltb n 10 u, digitsIn) (omega (arith, length-append (digitsIn calls (n / 10)) ((48 + n % 10) ∷ []), digits-within calls (n / 10))))
+-- a number below 10 ^ k has k digits at most
+one-digit : (n : ℕ) → n < 10 → length (digitsOf n) ≡ 1
+one-digit n h = ap length (sym (digits-one n (48 + n % 10) refl h))
 
-pub few-digits : (n : ℕ) → length (digitsOf n) ≤ n + 1
-unfolding digitsOf
-few-digits n = digits-within (n + 1) n
+pub digits-most : (k n : ℕ) → n < 10 ^ suc k → length (digitsOf n) ≤ suc k
+digits-most zero n h = omega (arith, one-digit n (rw pow-suc at h))
+digits-most (suc k) n h =
+    by-lt n 10 (λ u. omega (arith, one-digit n u))
+    (λ u.
+    let most : n < 10 ^ suc k * 10 = rw pow-suc at h in
+    let e : length (digitsOf (n / 10) ++ ((48 + n % 10) ∷ [])) ≡ length (digitsOf n) = ap length (digits-more n (48 + n % 10) refl u) in
+    omega (arith, e, length-append (digitsOf (n / 10)) ((48 + n % 10) ∷ []), digits-most k (n / 10) (omega (arith, most, div-add-mod' n 10))))

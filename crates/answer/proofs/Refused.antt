@@ -1,11 +1,9 @@
 -- For `render_refused` of src/rows.rt: what a program writes of a refusal, 20 bytes at most. Assumes nothing.
-use mathlib.Core.Path.{_≡_, refl, sym, ap}
-use mathlib.Core.List.{List, [], _∷_, _++_}
-use Prim.Native.Nat.{ℕ, zero, suc, _+_, _*_, _/_, _%_, _^_, _≤_, _<_}
-use native.Mathlib.Nat.{div-add-mod', pow-suc}
+use mathlib.Core.Path.{_≡_}
+use mathlib.Core.List.{List, _++_}
+use Prim.Native.Nat.{ℕ, _≤_, _<_}
 use native.Mathlib.Omega.{arith}
 use lib.ListN.{length, length-append}
-use Rattle.laws.proofs.Cases.{by-lt}
 use Rattle.entity.specs.Forms.{sumOf}
 use Rattle.entity.specs.declared.forms.Refusal.{Refusal}
 use Rattle.rules.specs.Text.{bytes}
@@ -14,20 +12,7 @@ use Rattle.rules.specs.Answer.{refused, printed}
 use Rattle.answer.specs.Text.{over, Laid}
 use Rattle.answer.proofs.Laying.{laid-as}
 use Rattle.answer.proofs.Lines.{refused-line}
-use Rattle.answer.proofs.Numbers.{digits-one, digits-more}
-
--- a number below 10 ^ k has k digits at most
-one-digit : (n : ℕ) → n < 10 → length (digitsOf n) ≡ 1
-one-digit n h = ap length (sym (digits-one n (48 + n % 10) refl h))
-
-digits-most : (k n : ℕ) → n < 10 ^ suc k → length (digitsOf n) ≤ suc k
-digits-most zero n h = omega (arith, one-digit n (rw pow-suc at h))
-digits-most (suc k) n h =
-    by-lt n 10 (λ u. omega (arith, one-digit n u))
-    (λ u.
-    let most : n < 10 ^ suc k * 10 = rw pow-suc at h in
-    let e : length (digitsOf (n / 10) ++ ((48 + n % 10) ∷ [])) ≡ length (digitsOf n) = ap length (digits-more n (48 + n % 10) refl u) in
-    omega (arith, e, length-append (digitsOf (n / 10)) ((48 + n % 10) ∷ []), digits-most k (n / 10) (omega (arith, most, div-add-mod' n 10))))
+use Rattle.answer.proofs.Numbers.{digits-most}
 
 -- the row and its length
 row-is : (r : Refusal) {n : ℕ} → n ≡ sumOf r → bytes "refused," ++ (digitsOf n ++ bytes "\r\n") ≡ printed (refused r)

@@ -2,7 +2,7 @@
 use mathlib.Core.Path.{_≡_}
 use mathlib.Core.Bool.{cond}
 use mathlib.Core.List.{List, [], _∷_, _++_, map, flatMap}
-use Prim.Native.Nat.{ℕ, _-_, _≤_}
+use Prim.Native.Nat.{ℕ, _+_, _-_, _*_, _≤_}
 use lib.Dec.{eqb}
 use lib.ListN.{length, getD, take}
 use Rattle.laws.specs.Lists.{from}
@@ -44,6 +44,10 @@ countLine counts = lineOf (bytes "count" ∷ map (λ k. digitsOf (getD counts k 
 -- all of them
 unfoldable pub rendered : List ℕ → List ℕ → List ℕ → List ℕ → List ℕ
 rendered t edits places counts = flatMap (foldAt t places) (from 0 (countIn t 10)) ++ flatMap (editAt t edits) (from 0 (countIn t 12)) ++ countLine counts
+
+-- no more than this, as a fold row has 22 bytes at most, an edit row 38 and the count row 106
+unfoldable pub answerMost : List ℕ → ℕ
+answerMost t = countIn t 10 * 22 + countIn t 12 * 38 + 106
 
 -- ---- what they say
 

@@ -10,7 +10,7 @@ ghost use Rattle.rules.specs.Answer.{output, refused, printed};
 ghost use Rattle.table.specs.Rows.{countIn};
 ghost use Rattle.table.specs.Sheet.{sheetIn};
 ghost use Rattle.answer.specs.Text.{over, Laid, cellText};
-ghost use Rattle.answer.specs.Rows.{foldLine, foldAt, editAt, countLine, Stands};
+ghost use Rattle.answer.specs.Rows.{foldLine, foldAt, editAt, countLine, answerMost, Stands};
 use crate::text::put_cell;
 use crate::text::put_comma;
 use crate::text::put_end;
@@ -32,6 +32,13 @@ use table::view::edit_at;
 
 // How many counts a count row has.
 pub const COUNTS: usize = 9;
+
+// The longest that a row can be: `fold,511,2047,s99999`, `edit,511,ereload,r99999,s99999,99999`, and nine counts of ten digits; each with CR LF.
+const FOLD: usize = 22;
+
+const EDIT: usize = 38;
+
+const COUNT: usize = 106;
 
 // A comma and then a number.
 fn put_next(out: &mut [u8], at: usize, n: u32) -> usize
@@ -127,6 +134,13 @@ fn put_counts(counts: &[u32], out: &mut [u8], at: usize) -> usize
         k += 1;
     }
     put_end(out, next)
+}
+
+// An answer to the table's sheet is no longer than this.
+pub fn most(t: &[u32]) -> usize
+    ensures { λ r. ⌜ r ≡ answerMost (now (t .entry)) ⌝ }
+{
+    count(t, Kind::OP) as usize * FOLD + count(t, Kind::EDIT) as usize * EDIT + COUNT
 }
 
 // The whole answer from the buffer's start, as far as it fits, and how long it is.

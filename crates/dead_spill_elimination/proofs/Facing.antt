@@ -7,7 +7,7 @@ use mathlib.Core.List.{List, [], _∷_, _++_, map, flatMap, append-assoc}
 use Prim.Native.Nat.{ℕ, _+_, _≤_, _<_}
 use native.Mathlib.Omega.{arith}
 use lib.Dec.{eqb, ltb}
-use lib.ListN.{length, getD, length-map, List·getD-eq-default}
+use lib.ListN.{length, getD, replicate, length-map, List·getD-eq-default}
 use borrow.Author.Tests.{ltb-true}
 use Rattle.laws.specs.Lists.{all, keep, isIn, from}
 use Rattle.laws.proofs.Cases.{by-bool, by-lt, same-test}
@@ -29,10 +29,12 @@ use Rattle.run.proofs.Lists.{either, all-true}
 use Rattle.table.specs.Sheet.{sheetIn}
 use Rattle.table.specs.Edits.{editIn}
 use Rattle.table.specs.Index.{rangeIn}
+use Rattle.table.specs.Rows.{countIn}
 use Rattle.table.proofs.Loops.{and-left, and-right}
 use Rattle.table.proofs.Sheets.{members-at, members-long}
 use Rattle.table.proofs.Stored.{edits-at}
 use Rattle.dead_spill_elimination.specs.Slots.{numbers, back, editsBack, instBack, stepBack, blockBack, Lows}
+use Rattle.dead_spill_elimination.specs.Touched.{touchedTo}
 use Rattle.dead_spill_elimination.specs.Worklist.{Facts}
 use Rattle.dead_spill_elimination.specs.Held.{theEdits, thePlaces, Held}
 use Rattle.dead_spill_elimination.proofs.Striking.{itemsOf}
@@ -75,7 +77,7 @@ list-named sh (r ∷ rows) b x e h =
     (either x (r .list) (flatMap (λ r. r .list) (keep (λ r. eqb (r .at) b) rows)) (rw p at h)))
     (λ p. rest (rw p at h))
 
-module _ {t edits places counts : List ℕ} (h : Held t edits places counts) where
+module _ {t edits places counts touched : List ℕ} (h : Held t edits places counts) (told : touched ≡ touchedTo t places (replicate 1024 0) (countIn t 10)) where
   abbrev sh : Sheet
   sh = sheetIn t
 
@@ -98,29 +100,29 @@ module _ {t edits places counts : List ℕ} (h : Held t edits places counts) whe
   rows-below : (i j : ℕ) → In j (editsAt sh i) → j < length (sh .edits)
   rows-below i j m = here sh i j (in-map j (editsAt sh i) .1 m) .1
 
-  step-are : (i : ℕ) (A B : List ℕ) → Alike A B → Alike (stepBack t edits places i A) (wantedAt (map (look sh ps es) (map row (editsAt sh i) ++ (ins i ∷ []))) B)
+  step-are : (i : ℕ) (A B : List ℕ) → Alike A B → Alike (stepBack t edits touched i A) (wantedAt (map (look sh ps es) (map row (editsAt sh i) ++ (ins i ∷ []))) B)
   unfolding stepBack wantedAt look
   step-are i A B e k =
       let rows : List Op = map (look sh ps es) (map row (editsAt sh i)) in
       let one : inst (instOf sh ps es i) ∷ [] ≡ map (look sh ps es) (ins i ∷ []) = refl in
-      ap (λ (js : List ℕ). isIn k (editsBack edits js (instBack t places i A))) (linked h .rows i)
-      ∙ ap (isIn k) (edits-are (editsAt sh i) (rows-below i) (instBack t places i A))
-      ∙ at-alike rows (instBack t places i A) (wantedBefore (inst (instOf sh ps es i)) B)
-      (λ n. linked h .at-inst i A n ∙ at-alike (inst (instOf sh ps es i) ∷ []) A B e n) k
+      ap (λ (js : List ℕ). isIn k (editsBack edits js (instBack touched i A))) (linked h told .rows i)
+      ∙ ap (isIn k) (edits-are (editsAt sh i) (rows-below i) (instBack touched i A))
+      ∙ at-alike rows (instBack touched i A) (wantedBefore (inst (instOf sh ps es i)) B)
+      (λ n. linked h told .at-inst i A n ∙ at-alike (inst (instOf sh ps es i) ∷ []) A B e n) k
       ∙ sym (ap (isIn k) (ap (λ (os : List Op). wantedAt os B) (map-append (look sh ps es) (map row (editsAt sh i)) (ins i ∷ [])) ∙ at-append rows (inst (instOf sh ps es i) ∷ []) B))
 
-  items-are : (is A : List ℕ) → Alike (back (stepBack t edits places) is A) (wantedAt (map (look sh ps es) (itemsOf sh is)) A)
+  items-are : (is A : List ℕ) → Alike (back (stepBack t edits touched) is A) (wantedAt (map (look sh ps es) (itemsOf sh is)) A)
   unfolding back flatMap wantedAt
   items-are [] A k = refl
   items-are (i ∷ is) A k =
       let here : List Item = map row (editsAt sh i) ++ (ins i ∷ []) in
-      step-are i (back (stepBack t edits places) is A) (wantedAt (map (look sh ps es) (itemsOf sh is)) A) (items-are is A) k
+      step-are i (back (stepBack t edits touched) is A) (wantedAt (map (look sh ps es) (itemsOf sh is)) A) (items-are is A) k
       ∙ sym (ap (isIn k) (ap (λ (os : List Op). wantedAt os A) (map-append (look sh ps es) here (itemsOf sh is)) ∙ at-append (map (look sh ps es) here) (map (look sh ps es) (itemsOf sh is)) A))
 
-  block-is : (b : ℕ) (A : List ℕ) (k : ℕ) → isIn k (blockBack t edits places b A) ≡ isIn k (wantedAt (opsOf f b) A)
+  block-is : (b : ℕ) (A : List ℕ) (k : ℕ) → isIn k (blockBack t edits touched b A) ≡ isIn k (wantedAt (opsOf f b) A)
   unfolding blockBack items
   block-is b A k =
-      ap (λ (is : List ℕ). isIn k (back (stepBack t edits places) is A)) (linked h .insts b) ∙ items-are (instsOf sh b) A k
+      ap (λ (is : List ℕ). isIn k (back (stepBack t edits touched) is A)) (linked h told .insts b) ∙ items-are (instsOf sh b) A k
       ∙ sym (ap (λ (os : List Op). isIn k (wantedAt os A)) (ops-look sh ps es b))
 
   -- ---- predecessors and successors
@@ -147,14 +149,10 @@ module _ {t edits places counts : List ℕ} (h : Held t edits places counts) whe
   agree-back b p l m =
       is-in b (succsOf sh p) .0 (all-true (λ p. isIn b (succsOf sh p)) (predsOf sh b) (and-right (all (λ t. isIn b (predsOf sh t)) (succsOf sh b)) _ (agree-at b l)) p m)
 
-  pub lows : Lows t edits places
-  lows =
-      record {
-        low-uses = linked h .low-uses;
-        low-edits = λ i j m. h .low-edits j (rows-below i j (rw (linked h .rows i) at m));
-      }
+  lows : Lows t edits
+  lows i j m = h .low-edits j (rows-below i j (rw (linked h told .rows i) at m))
 
-  pub facts : Facts t edits places f (blockCount sh)
+  pub facts : Facts t edits touched f (blockCount sh)
   facts =
       record {
         ready = h .ready;

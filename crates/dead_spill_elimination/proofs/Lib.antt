@@ -9,6 +9,7 @@ pub mod Counting
 pub mod Striking
 pub mod Overall
 pub mod Numbers
+pub mod Touching
 pub mod Linking
 pub mod Facing
 pub mod Whole

@@ -3,65 +3,59 @@ use mathlib.Core.Path.{_≡_, refl, sym, _∙_, ap}
 use mathlib.Core.Logic.{_⊎_, ⊎-elim}
 use mathlib.Core.Bool.{Bool, true, false, cond, not, _&&_, _||_}
 use mathlib.Core.List.{List, [], _∷_, _++_, flatMap, zipWith, append-assoc}
-use Prim.Native.Nat.{ℕ, suc, _+_, _-_, _<_}
+use Prim.Native.Nat.{ℕ, suc, _+_, _-_, _*_, _≤_, _<_}
 use native.Mathlib.Omega.{arith}
 use lib.Dec.{eqb}
-use lib.ListN.{length, getD, List·getD-eq-default}
-use Rattle.laws.specs.Lists.{any, isIn, from}
+use lib.ListN.{length, getD, replicate, List·getD-eq-default}
+use borrow.Author.Tests.{ltb-true}
+use Rattle.laws.specs.Digits.{bit}
+use Rattle.laws.specs.Lists.{isIn, from}
 use Rattle.laws.proofs.Cases.{by-bool, by-lt}
 use Rattle.laws.proofs.Lists.{getD-any, flat-map, is-append}
 use Rattle.entity.specs.Limits.{slotLimit, instLimit}
 use Rattle.entity.specs.declared.forms.Place.{Place}
-use Rattle.entity.specs.declared.forms.Place.the-variants.{Reg}
+use Rattle.entity.specs.declared.forms.Place.the-variants.{Reg, Slot}
 use Rattle.entity.specs.declared.forms.Edit.{Edit}
 use Rattle.entity.specs.declared.forms.Edit.the-variants.{Nothing}
 use Rattle.entity.specs.declared.forms.OperandKind.the-variants.{NonAllocatable}
-use Rattle.rules.specs.Sheet.{Sheet, OpRow, isUse}
-use Rattle.rules.specs.Accept.{operandsAt}
+use Rattle.rules.specs.Sheet.{Sheet, OpRow, isUse, instCount}
+use Rattle.rules.specs.Words.{defWord, earlyWord}
+use Rattle.rules.specs.Accept.{operandsAt, instExists, subjectExists, constraintExists, placeExists}
 use Rattle.rules.specs.Forward.{indexed, allDefs, editsAt}
 use Rattle.rules.specs.Function.{edit, inst, instOf, slotOf, slotsOf, In}
 use Rattle.rules.specs.Sweep.{withoutAll, wantedBy, wantedBefore}
-use Rattle.rules.proofs.Refusals.{in-limits}
+use Rattle.rules.proofs.Refusals.{in-limits, all-named, each-named}
+use Rattle.run.proofs.Sets.{is-in}
 use Rattle.run.proofs.Lists.{either}
-use Rattle.table.specs.Layout.{editIndex, opIndex}
+use Rattle.table.specs.Layout.{editIndex}
+use Rattle.table.specs.Rows.{countIn, kindRow}
 use Rattle.table.specs.Sheet.{sheetIn}
 use Rattle.table.specs.View.{opRow}
 use Rattle.table.specs.Edits.{placeIn}
 use Rattle.table.specs.Index.{rangeIn}
-use Rattle.table.proofs.Sheets.{editRowOf, opRowOf, edits-are, ops-are}
-use Rattle.table.proofs.Orders.{ready-ops}
-use Rattle.table.proofs.Lookups.{ops-below, edits-below, edits-fall-in, insts-are}
+use Rattle.table.proofs.Loops.{all-at, and-left, and-right}
+use Rattle.table.proofs.Sheets.{editRowOf, edits-are, ops-are, long-of}
+use Rattle.table.proofs.Lookups.{edits-below, edits-fall-in, insts-are}
 use Rattle.table.proofs.Stored.{edits-length, edits-at, places-at}
-use Rattle.dead_spill_elimination.specs.Slots.{Low, LowReads, numbers, back, defsAt, usesAt, instBack}
+use Rattle.dead_spill_elimination.specs.Slots.{Low, LowReads, numbers, defsAt, usesAt, listOf, instBack}
+use Rattle.dead_spill_elimination.specs.Touched.{touchedTo}
+use Rattle.dead_spill_elimination.specs.Worklist.{Word}
 use Rattle.dead_spill_elimination.specs.Strikes.{Linked}
 use Rattle.dead_spill_elimination.specs.Held.{theEdits, thePlaces, Held}
-use Rattle.dead_spill_elimination.proofs.Members.{is-with-all, is-without-all}
-use Rattle.dead_spill_elimination.proofs.Numbers.{those, numbersOf, at-numbers, flat-pairs, flat-rows}
+use Rattle.dead_spill_elimination.proofs.Members.{is-with-all, is-without-all, at-is, place-is, defs-is}
+use Rattle.dead_spill_elimination.proofs.Tell.{listed-word}
+use Rattle.dead_spill_elimination.proofs.Touching.{Fine, defs-told, uses-told}
+use Rattle.dead_spill_elimination.proofs.Numbers.{those, numbersOf, at-numbers, flat-pairs, flat-rows, any-rows}
 
--- ---- `back` over operands
+-- ---- lists of slots below the limit
 
-back-adds : (G : ℕ → List ℕ) (js X : List ℕ) → back (λ n B. G n ++ B) js X ≡ flatMap G js ++ X
-unfolding back flatMap
-back-adds G [] X = refl
-back-adds G (j ∷ js) X = rw (back-adds G js X) (sym (append-assoc (G j) (flatMap G js) X))
+pub low-flat : (G : ℕ → List ℕ) → ((n : ℕ) → Low (G n)) → (ns : List ℕ) → Low (flatMap G ns)
+unfolding flatMap
+low-flat G l [] s y = absurd y
+low-flat G l (n ∷ ns) s y = ⊎-elim (l n s) (low-flat G l ns s) (either s (G n) (flatMap G ns) y)
 
-back-takes : (G : ℕ → List ℕ) (js X : List ℕ) (k : ℕ) → isIn k (back (λ n B. withoutAll (G n) B) js X) ≡ (isIn k X && not (isIn k (flatMap G js)))
-unfolding back flatMap isIn any
-back-takes G [] X k = turn (isIn k X)
-  where
-    turn : (b : Bool) → b ≡ (b && not false)
-    turn true = refl
-    turn false = refl
-back-takes G (j ∷ js) X k =
-    is-without-all k (G j) (back (λ n B. withoutAll (G n) B) js X) ∙ ap (λ (b : Bool). b && not (isIn k (G j))) (back-takes G js X k)
-    ∙ turn (isIn k X) (isIn k (flatMap G js)) (isIn k (G j)) ∙ ap (λ (b : Bool). isIn k X && not b) (sym (is-append k (G j) (flatMap G js)))
-  where
-    turn : (a b c : Bool) → ((a && not b) && not c) ≡ (a && not (c || b))
-    turn true true true = refl
-    turn true true false = refl
-    turn true false true = refl
-    turn true false false = refl
-    turn false b c = refl
+low-none : (L : List ℕ) → Low L → (k : ℕ) → slotLimit ≤ k → isIn k L ≡ false
+low-none L l k h = by-bool (isIn k L) (λ e. absurd (omega (arith, l k (is-in k L .0 e)))) (λ e. e)
 
 -- ---- an instruction's operands
 
@@ -98,9 +92,6 @@ module _ {t edits places counts : List ℕ} (h : Held t edits places counts) whe
   abbrev js : ℕ → List ℕ
   js i = numbersOf (λ (o : OpRow). eqb (o .at) i) 0 (sh .ops)
 
-  ops-numbers : (i : ℕ) → numbers (rangeIn t opIndex instLimit i) ≡ js i
-  ops-numbers i = at-numbers opRowOf (λ o. o .at) (λ r. refl) i t opIndex 10 instLimit (h .ready .built .ops) (ops-below (h .ready)) (ready-ops (h .ready)) (sh .ops) (ops-are t .is)
-
   uses-are : (i : ℕ) → instOf sh ps es i .uses ≡ flatMap (usesAt t places) (js i)
   unfolding instOf indexed usesAt
   uses-are i =
@@ -122,17 +113,6 @@ module _ {t edits places counts : List ℕ} (h : Held t edits places counts) whe
       let z : 0 + m ≡ m = omega arith in
       rw z (ap (λ (o : OpRow). flatMap (λ (d : ℕ × Place). slotOf (d .1)) (allDefs sh o)) (getD-any (sh .ops) m _ _ u)))
 
-  inst-is : (i : ℕ) (A : List ℕ) (k : ℕ) → isIn k (instBack t places i A) ≡ isIn k (wantedBefore (inst (instOf sh ps es i)) A)
-  unfolding instBack wantedBefore wantedBy
-  inst-is i A k =
-      rw (ops-numbers i)
-      (ap (isIn k) (back-adds (usesAt t places) (js i) (back (λ n B. withoutAll (defsAt t n) B) (js i) A))
-      ∙ is-append k (flatMap (usesAt t places) (js i)) (back (λ n B. withoutAll (defsAt t n) B) (js i) A)
-      ∙ ap (λ (b : Bool). isIn k (flatMap (usesAt t places) (js i)) || b) (back-takes (defsAt t) (js i) A k)
-      ∙ sym (is-with-all k (instOf sh ps es i .uses) (withoutAll (slotsOf (instOf sh ps es i .defs)) A)
-      ∙ ap (λ (b : Bool). isIn k (instOf sh ps es i .uses) || b) (is-without-all k (slotsOf (instOf sh ps es i .defs)) A ∙ ap (λ (l : List ℕ). isIn k A && not (isIn k l)) (defs-are i))
-      ∙ ap (λ (l : List ℕ). isIn k l || (isIn k A && not (isIn k (flatMap (defsAt t) (js i))))) (uses-are i)))
-
   low-use : (n : ℕ) → Low (usesAt t places n)
   unfolding usesAt isUse
   low-use n =
@@ -145,27 +125,85 @@ module _ {t edits places counts : List ℕ} (h : Held t edits places counts) whe
       go false x = λ s m. absurd m
 
   pub low-inst : (i : ℕ) → LowReads (inst (instOf sh ps es i))
-  unfolding flatMap
-  low-inst i s m = some (js i) (rw (uses-are i) at m)
-    where
-      some : (ns : List ℕ) → In s (flatMap (usesAt t places) ns) → s < slotLimit
-      some [] y = absurd y
-      some (n ∷ ns) y = ⊎-elim (low-use n s) (some ns) (either s (usesAt t places n) (flatMap (usesAt t places) ns) y)
+  low-inst i s m = low-flat (usesAt t places) low-use (js i) s (rw (uses-are i) at m)
 
-  low-row : (j : ℕ) → LowReads (edit (getD es j Nothing))
+  named : (n : ℕ) → n < length (sh .ops) → (opRow sh n .at < instCount sh) × (placeExists sh (opRow sh n .place) ≡ true)
+  named n l =
+      let o : OpRow = opRow sh n in
+      let e = all-at (λ (o : OpRow). instExists sh (o .at) && subjectExists sh (o .kind) && constraintExists sh (o .constraint) && placeExists sh (o .place)) _ (sh .ops)
+      (each-named sh (all-named sh (h .ready .names)) .ops) n l in
+      let a : Bool = instExists sh (o .at) && subjectExists sh (o .kind) && constraintExists sh (o .constraint) in (
+        ltb-true (o .at) (instCount sh) (and-left _ (subjectExists sh (o .kind)) (and-left _ (constraintExists sh (o .constraint)) (and-left _ (placeExists sh (o .place)) e))),
+        and-right a _ e,
+      )
+
+  low-place : (p : Place) → placeExists sh p ≡ true → Low (slotOf p)
+  unfolding slotOf placeExists
+  low-place (Reg r) e s m = absurd m
+  low-place (Slot d) e s m = ⊎-elim (λ q. omega (arith, q, ltb-true (d .0) (sh .slots) e, in-limits sh (h .ready .limits) .few-slots)) (λ z. absurd z) m
+
+  low-past : (n : ℕ) → length (sh .ops) ≤ n → Low (defsAt t n)
+  unfolding defsAt allDefs flatMap
+  low-past n l = rw (List·getD-eq-default (sh .ops) (record { at = 0; kind = NonAllocatable; constraint = _; place = Reg (record { 0 = 0 }) }) {n = n} l) (λ s m. absurd m)
+
+  low-def : (n : ℕ) → Low (defsAt t n)
+  low-def n =
+      by-lt n (length (sh .ops))
+      (λ l. rw (defs-is t places n, ← place-is t places n) (go (slotOf (opRow sh n .place)) (eqb (getD (kindRow t 10 n) 2 0) defWord || eqb (getD (kindRow t 10 n) 2 0) earlyWord) (low-place (opRow sh n .place) (named n l .1))))
+      (low-past n)
+    where
+      go : (L : List ℕ) (c : Bool) → Low L → Low (cond c L [])
+      go L true x = x
+      go L false x = λ s m. absurd m
+
+  fine : (n : ℕ) → n < length (sh .ops) → Fine t places n
+  fine n l = record { near = omega (arith, at-is t places n, named n l .0, in-limits sh (h .ready .limits) .few-insts); low-def = low-def n; low-use = low-use n }
+
+  pub low-row : (j : ℕ) → LowReads (edit (getD es j Nothing))
   low-row j =
       by-lt j (length (sh .edits))
       (λ l. rw (edits-at edits (length (sh .edits)) j Nothing l) (h .low-edits j l))
       (λ l. rw (List·getD-eq-default es Nothing {n = j} (rw (edits-length edits (length (sh .edits))) l)) (λ s m. absurd m))
 
-  pub linked : Linked t places sh ps es counts
-  linked =
-      record {
-        insts = insts-are (h .ready);
-        rows = rows-are;
-        at-inst = inst-is;
-        low-uses = low-use;
-        low-rows = low-row;
-        few = λ k. omega (arith, h .few k, in-limits sh (h .ready .limits) .few-edits, edits-length edits (length (sh .edits)));
-        many = edits-length edits (length (sh .edits));
-      }
+  -- what is wanted before an instruction, by its two words
+  module _ {touched : List ℕ} (told : touched ≡ touchedTo t places (replicate 1024 0) (countIn t 10)) where
+    told-are : touched ≡ touchedTo t places (replicate 1024 0) (length (sh .ops))
+    told-are = told ∙ ap (touchedTo t places (replicate 1024 0)) (sym (long-of (ops-are t)))
+
+    at-row : (i m : ℕ) → m < length (sh .ops) → eqb (getD (kindRow t 10 m) 1 0) i ≡ eqb (getD (sh .ops) m (opRow sh (length (sh .ops))) .at) i
+    at-row i m u = ap (λ (x : ℕ). eqb x i) (sym (at-is t places m) ∙ ap (λ (o : OpRow). o .at) (getD-any (sh .ops) m _ _ u))
+
+    defs-word : (i : ℕ) → Word (getD touched (i * 2) 0) (flatMap (defsAt t) (js i))
+    defs-word i k =
+        ap (λ (l : List ℕ). bit (getD l (i * 2) 0) k) told-are ∙ defs-told t places i k (length (sh .ops)) fine
+        ∙ any-rows (λ (o : OpRow). eqb (o .at) i) (defsAt t) (opRow sh (length (sh .ops))) k _ (sh .ops) 0 (λ m u. let z : 0 + m ≡ m = omega arith in rw (z, at-row i m u))
+
+    uses-word : (i : ℕ) → Word (getD touched (i * 2 + 1) 0) (flatMap (usesAt t places) (js i))
+    uses-word i k =
+        ap (λ (l : List ℕ). bit (getD l (i * 2 + 1) 0) k) told-are ∙ uses-told t places i k (length (sh .ops)) fine
+        ∙ any-rows (λ (o : OpRow). eqb (o .at) i) (usesAt t places) (opRow sh (length (sh .ops))) k _ (sh .ops) 0 (λ m u. let z : 0 + m ≡ m = omega arith in rw (z, at-row i m u))
+
+    inst-is : (i : ℕ) (A : List ℕ) (k : ℕ) → isIn k (instBack touched i A) ≡ isIn k (wantedBefore (inst (instOf sh ps es i)) A)
+    unfolding instBack wantedBefore wantedBy
+    inst-is i A k =
+        let D : List ℕ = flatMap (defsAt t) (js i) in
+        let U : List ℕ = flatMap (usesAt t places) (js i) in
+        let u : isIn k (listOf (getD touched (i * 2 + 1) 0)) ≡ isIn k U = listed-word _ U (uses-word i) (low-none U (low-flat (usesAt t places) low-use (js i))) k in
+        let d : isIn k (listOf (getD touched (i * 2) 0)) ≡ isIn k D = listed-word _ D (defs-word i) (low-none D (low-flat (defsAt t) low-def (js i))) k in
+        is-append k (listOf (getD touched (i * 2 + 1) 0)) (withoutAll (listOf (getD touched (i * 2) 0)) A)
+        ∙ ap (λ (b : Bool). b || isIn k (withoutAll (listOf (getD touched (i * 2) 0)) A)) u
+        ∙ ap (λ (b : Bool). isIn k U || b) (is-without-all k (listOf (getD touched (i * 2) 0)) A ∙ ap (λ (b : Bool). isIn k A && not b) d)
+        ∙ sym (is-with-all k (instOf sh ps es i .uses) (withoutAll (slotsOf (instOf sh ps es i .defs)) A)
+        ∙ ap (λ (b : Bool). isIn k (instOf sh ps es i .uses) || b) (is-without-all k (slotsOf (instOf sh ps es i .defs)) A ∙ ap (λ (l : List ℕ). isIn k A && not (isIn k l)) (defs-are i))
+        ∙ ap (λ (l : List ℕ). isIn k l || (isIn k A && not (isIn k D))) (uses-are i))
+
+    pub linked : Linked t touched sh ps es counts
+    linked =
+        record {
+          insts = insts-are (h .ready);
+          rows = rows-are;
+          at-inst = inst-is;
+          low-rows = low-row;
+          few = λ k. omega (arith, h .few k, in-limits sh (h .ready .limits) .few-edits, edits-length edits (length (sh .edits)));
+          many = edits-length edits (length (sh .edits));
+        }

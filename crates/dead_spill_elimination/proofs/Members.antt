@@ -2,7 +2,7 @@
 --     is-without-all, is-with-all              membership in lists
 --     same-with, same-without, same-all        sets and lists that have the same members
 --     over-is, into-is, before-move, ..        the slots wanted before an edit
---     def-taken, use-taken, ..                 an operand's slot
+--     at-is, place-is, defs-is, uses-is        an operand, by its cells
 use mathlib.Core.Path.{_≡_, refl, sym, _∙_, ap, subst}
 use mathlib.Core.Logic.{inl}
 use mathlib.Core.Bool.{Bool, true, false, cond, not, _&&_, _||_}
@@ -29,8 +29,8 @@ use Rattle.entity.specs.declared.forms.Edit.{Edit}
 use Rattle.entity.specs.declared.forms.Edit.the-variants.{Move, Remat, Espill, Ereload, Misplaced, Nothing}
 use Rattle.entity.specs.declared.forms.OperandKind.{OperandKind}
 use Rattle.entity.specs.declared.forms.OperandKind.the-variants.{Def, Use, EarlyDef, DefGroup, UseGroup, EarlyDefGroup, NonAllocatable}
-use Rattle.rules.specs.Words.{defWord, earlyWord}
-use Rattle.rules.proofs.Words.{defgWord, earlygWord, useWord, usegWord}
+use Rattle.rules.specs.Words.{defWord, useWord, earlyWord}
+use Rattle.rules.proofs.Words.{defgWord, earlygWord, usegWord}
 use Rattle.rules.specs.Cells.{word, find, words}
 use Rattle.rules.specs.Sheet.{Sheet, OpRow, isUse, placeOf, kindOf}
 use Rattle.rules.specs.Forward.{members, allDefs}
@@ -255,27 +255,26 @@ module _ (k v : ℕ) where
       other false false false true = refl
       other false false false false = refl
 
-module _ (S T : NumberSet) (A t places : List ℕ) (n : ℕ) {row : List ℕ} {k : ℕ} (r : row ≡ kindRow t 10 n) (q : k ≡ getD row 2 0) where
-  kind-is : opRow (sheetIn t) n .kind ≡ kindOf k (getD row 3 0)
+-- operand row n, by its cells
+module _ (t places : List ℕ) (n : ℕ) where
+  abbrev row : List ℕ
+  row = kindRow t 10 n
+
+  kind-is : opRow (sheetIn t) n .kind ≡ kindOf (getD row 2 0) (getD row 3 0)
   unfolding kindOf word find words
-  kind-is = part-of (ops-are t) (λ o. o .kind) n _ refl ∙ rw (q, r)
+  kind-is = part-of (ops-are t) (λ o. o .kind) n _ refl
 
-  place-is : opRow (sheetIn t) n .place ≡ placeOf (getD row 5 0)
+  pub at-is : opRow (sheetIn t) n .at ≡ getD row 1 0
+  at-is = part-of (ops-are t) (λ o. o .at) n _ refl
+
+  pub place-is : opRow (sheetIn t) n .place ≡ placeOf (getD row 5 0)
   unfolding placeOf
-  place-is = part-of (ops-are t) (λ o. o .place) n _ refl ∙ rw r
+  place-is = part-of (ops-are t) (λ o. o .place) n _ refl
 
-  pub def-taken : {c : Bool} {p : Place} {m : ℕ} → c ≡ (eqb k defWord || eqb k earlyWord) → c ≡ true → m ≡ getD row 5 0 → p ≡ placeOf m → (Same S A → Same T (withoutAll (slotOf p) A)) → Same S A → Same T (withoutAll (defsAt t n) A)
+  pub defs-is : defsAt t n ≡ cond (eqb (getD row 2 0) defWord || eqb (getD row 2 0) earlyWord) (slotOf (placeOf (getD row 5 0))) []
   unfolding defsAt
-  def-taken e y u z f h = rw (def-slots (sheetIn t) (opRow (sheetIn t) n) _ refl, kind-is, def-word k (getD row 3 0), ← e, y, place-is, ← u, ← z) (f h)
+  defs-is = def-slots (sheetIn t) (opRow (sheetIn t) n) _ refl ∙ rw (kind-is, def-word (getD row 2 0) (getD row 3 0), place-is)
 
-  pub def-left : {c : Bool} → c ≡ (eqb k defWord || eqb k earlyWord) → c ≡ false → Same S A → Same S (withoutAll (defsAt t n) A)
-  unfolding defsAt
-  def-left e y h = rw (def-slots (sheetIn t) (opRow (sheetIn t) n) _ refl, kind-is, def-word k (getD row 3 0), ← e, y) (same-all S A h)
-
-  pub use-taken : {p : Place} {m : ℕ} → k ≡ useWord → m ≡ getD places n 0 → p ≡ placeOf m → (Low (slotOf p) → Same S A → Same T (slotOf p ++ A)) → Low (usesAt t places n) → Same S A → Same T (usesAt t places n ++ A)
+  pub uses-is : usesAt t places n ≡ cond (eqb (getD row 2 0) useWord) (slotOf (placeOf (getD places n 0))) []
   unfolding usesAt placeIn
-  use-taken y u z = rw (kind-is, use-word k (getD row 3 0), eq-eqb k useWord y, ← u, ← z) (λ f l h. f l h)
-
-  pub use-left : (k ≡ useWord → ⊥) → Low (usesAt t places n) → Same S A → Same S (usesAt t places n ++ A)
-  unfolding usesAt
-  use-left y l h = rw (kind-is, use-word k (getD row 3 0), ne-eqb k useWord y) h
+  uses-is = rw (kind-is, use-word (getD row 2 0) (getD row 3 0))

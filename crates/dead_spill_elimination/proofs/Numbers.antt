@@ -1,8 +1,8 @@
 -- For Linking.antt: the numbers of the rows of one instruction, by the index. Assumes nothing.
 --     at-numbers       where first fields never fall, the rows at x have the numbers from `before x` to `before (x + 1)`
---     flat-pairs, flat-rows     what is read off those rows, by their numbers
+--     flat-pairs, flat-rows, any-rows     what is read off those rows, by their numbers
 use mathlib.Core.Path.{_≡_, refl, sym, _∙_, ap}
-use mathlib.Core.Bool.{Bool, true, false, cond}
+use mathlib.Core.Bool.{Bool, true, false, cond, _&&_, _||_}
 use mathlib.Core.List.{List, [], _∷_, _++_, map, flatMap, zip, zipWith}
 use Prim.Native.Nat.{ℕ, zero, suc, _+_, _-_, _≤_, _<_}
 use native.Mathlib.Numerals.{add-one}
@@ -10,8 +10,9 @@ use native.Mathlib.Omega.{arith}
 use lib.Dec.{eqb, ltb}
 use lib.ListN.{length, getD}
 use borrow.Author.Tests.{lt-ltb, le-ltb, eq-eqb, ne-eqb}
-use Rattle.laws.specs.Lists.{keep, from}
+use Rattle.laws.specs.Lists.{any, isIn, keep, from}
 use Rattle.laws.proofs.Cases.{by-lt, by-eq, by-bool}
+use Rattle.laws.proofs.Lists.{is-append}
 use Rattle.rules.specs.Rows.{first}
 use Rattle.table.specs.Sheet.{rowsAt}
 use Rattle.table.specs.Index.{before, Part, rangeIn, NeverFalls}
@@ -117,3 +118,18 @@ module _ {A B : Type 0} (q : A → Bool) (G : ℕ → List B) (d : A) where
       by-bool (q a)
       (λ p. rw p (rw (first-is, rest)))
       (λ p. rw p rest)
+
+-- one of them has k
+module _ {A : Type 0} (q : A → Bool) (G : ℕ → List ℕ) (d : A) (k : ℕ) where
+  pub any-rows : (f : ℕ → Bool) (l : List A) (s : ℕ) → ((m : ℕ) → m < length l → f (s + m) ≡ (q (getD l m d) && isIn k (G (s + m)))) → any f (from s (length l)) ≡ isIn k (flatMap G (numbersOf q s l))
+  unfolding keep zip zipWith from flatMap any isIn
+  any-rows f [] s h = refl
+  any-rows f (a ∷ l) s h =
+      let z : s + 0 ≡ s = omega arith in
+      let first-is : f s ≡ (q a && isIn k (G s)) = rw z at (h 0 (omega arith)) in
+      let rest = any-rows f l (suc s) (λ m u. let e : s + suc m ≡ suc s + m = omega arith in rw e at (h (suc m) (omega arith))) in
+      by-bool (q a)
+      (λ p.
+      let here : f s ≡ isIn k (G s) = first-is ∙ rw p in
+      rw p (ap (λ (b : Bool). b || any f (from (suc s) (length l))) here ∙ ap (λ (b : Bool). isIn k (G s) || b) rest ∙ sym (is-append k (G s) (flatMap G (numbersOf q (suc s) l)))))
+      (λ p. let here : f s ≡ false = first-is ∙ rw p in rw (p, here) rest)

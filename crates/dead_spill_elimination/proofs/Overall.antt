@@ -44,7 +44,7 @@ row-there : (sh : Sheet) (b i j : ℕ) → In i (instsOf sh b) → In j (editsAt
 unfolding items
 row-there sh b i j = rows-of sh (instsOf sh b) i j
 
-module _ {t places edits marks₀ counts₀ ends : List ℕ} (h : All t places edits marks₀ counts₀ ends) where
+module _ {t touched edits marks₀ counts₀ ends : List ℕ} (h : All t touched edits marks₀ counts₀ ends) where
   abbrev turn : List Edit → ℕ → List Edit
   turn now b = strikeItems (h .sheet) (h .places-are) (h .edits) (items (h .sheet) b) (getD (h .after) b []) now
 
@@ -102,17 +102,17 @@ module _ {t places edits marks₀ counts₀ ends : List ℕ} (h : All t places e
 -- ---- the loop
 
 abbrev pub Overall : List ℕ → List ℕ → List ℕ → List ℕ → List ℕ → List ℕ → List ℕ → List ℕ → ℕ → Type 0
-Overall t places ends edits marks₀ counts₀ marks counts b =
-    (length marks ≡ length marks₀) × (length counts ≡ length counts₀) × ((h : All t places edits marks₀ counts₀ ends) → At h marks counts b)
+Overall t touched ends edits marks₀ counts₀ marks counts b =
+    (length marks ≡ length marks₀) × (length counts ≡ length counts₀) × ((h : All t touched edits marks₀ counts₀ ends) → At h marks counts b)
 
-module _ (t places ends edits marks₀ counts₀ : List ℕ) where
-  pub all-first : Overall t places ends edits marks₀ counts₀ marks₀ counts₀ 0
+module _ (t touched ends edits marks₀ counts₀ : List ℕ) where
+  pub all-first : Overall t touched ends edits marks₀ counts₀ marks₀ counts₀ 0
   all-first = (refl, refl, λ h. at-first h)
 
-  pub all-next : {marks counts marks′ counts′ : List ℕ} {S : NumberSet} {x : ℕ} (b : ℕ) → Overall t places ends edits marks₀ counts₀ marks counts b → b < length ends
+  pub all-next : {marks counts marks′ counts′ : List ℕ} {S : NumberSet} {x : ℕ} (b : ℕ) → Overall t touched ends edits marks₀ counts₀ marks counts b → b < length ends
       → length marks′ ≡ length marks → length counts′ ≡ length counts → x ≡ getD ends b 0 → ((A : List ℕ) → Word x A → Same S A)
-      → ((w : Work) → Linked t places (w .sheet) (w .places) (w .edits) (w .counts) → Unstruck w (instsOf (w .sheet) b) → Pos w [] edits marks counts S
-      → (S : NumberSet) × Pos w (items (w .sheet) b) edits marks′ counts′ S) → Overall t places ends edits marks₀ counts₀ marks′ counts′ (b + 1)
+      → ((w : Work) → Linked t touched (w .sheet) (w .places) (w .edits) (w .counts) → Unstruck w (instsOf (w .sheet) b) → Pos w [] edits marks counts S
+      → (S : NumberSet) × Pos w (items (w .sheet) b) edits marks′ counts′ S) → Overall t touched ends edits marks₀ counts₀ marks′ counts′ (b + 1)
   all-next {marks} {counts} {marks′} {counts′} {S} {x} b g l e f q s k = (
     e ∙ g .0,
     f ∙ g .1,
@@ -123,5 +123,5 @@ module _ (t places ends edits marks₀ counts₀ : List ℕ) where
         subst (At h marks′ counts′) (sym (add-one b)) (at-next h marks counts marks′ counts′ b (p .0) l a (p .1)),
   )
 
-  pub all-done : {marks counts : List ℕ} (b : ℕ) → Overall t places ends edits marks₀ counts₀ marks counts b → length ends ≤ b → (h : All t places edits marks₀ counts₀ ends) → Outcome h marks counts
+  pub all-done : {marks counts : List ℕ} (b : ℕ) → Overall t touched ends edits marks₀ counts₀ marks counts b → length ends ≤ b → (h : All t touched edits marks₀ counts₀ ends) → Outcome h marks counts
   all-done {marks} {counts} b g l h = at-done h marks counts b l (g .2 h)

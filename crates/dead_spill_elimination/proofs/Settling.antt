@@ -22,24 +22,24 @@ use Rattle.run.proofs.Back.{BackAll, back-all-mono, at-back, end-closed, end-le
 use Rattle.bits.specs.declared.sets.NumberSet.{NumberSet}
 use Rattle.table.specs.Sheet.{sheetIn}
 use Rattle.table.specs.Index.{Ready}
-use Rattle.dead_spill_elimination.specs.Slots.{Same, blockBack, Lows}
+use Rattle.dead_spill_elimination.specs.Slots.{Same, listOf, blockBack, Lows}
 use Rattle.dead_spill_elimination.specs.Worklist.{State, spread, Word, Turned, Facts}
 use Rattle.dead_spill_elimination.proofs.Sums.{weight, weight-clear}
 use Rattle.dead_spill_elimination.proofs.Given.{On, Words, set-cases, Gave, gave}
-use Rattle.dead_spill_elimination.proofs.Tell.{listOf, list-of-word}
+use Rattle.dead_spill_elimination.proofs.Tell.{list-of-word}
 
 pub record Good (n : ℕ) (X W : List ℕ) : Type 0 where
   pub live-len : length X ≡ n
   pub wait-len : length W ≡ n
   pub words : Words X
 
-module _ (t edits places : List ℕ) (n : ℕ) where
+module _ (t edits touched : List ℕ) (n : ℕ) where
   -- what each block that does not wait wants at its start is wanted at its predecessors' ends, and all that is wanted has to be
   pub record Inv (f : Func) (X W : List ℕ) : Type 0 where
     pub settled : (b : ℕ) → b < n → getD W b 0 ≡ 0 → (p s : ℕ) → In p (predsOf (sheetIn t) b) → BackAll (opsOf f b) (On (getD X b 0)) s → On (getD X p 0) s
     pub within : (b s : ℕ) → On (getD X b 0) s → WantedAtEnd f b s
 
-  module _ (X W : List ℕ) (g : Good n X W) (b : ℕ) (l : b < n) (st : State) (d : Turned t edits places b (record { live = X; wait = W }) st) where
+  module _ (X W : List ℕ) (g : Good n X W) (b : ℕ) (l : b < n) (st : State) (d : Turned t edits touched b (record { live = X; wait = W }) st) where
     given : Gave (d .preds) (d .start) (record { live = X; wait = set W b 0 }) st
     given =
         let e : length X ≡ length (set W b 0) = g .live-len ∙ sym (length-set W b 0 ∙ g .wait-len) in
@@ -51,7 +51,7 @@ module _ (t edits places : List ℕ) (n : ℕ) where
     pub less-turn : (getD W b 0 ≡ 0 → ⊥) → weight (2 ^ 64) (st .live) (st .wait) < weight (2 ^ 64) X W
     less-turn z = omega (arith, given .falls, weight-clear (2 ^ 64) X W b (omega (arith, g .wait-len)) z)
 
-    module _ (f : Func) (h : Facts t edits places f n) where
+    module _ (f : Func) (h : Facts t edits touched f n) where
       -- what is handed back is what the definitions say
       start-back : (s : ℕ) → On (d .start) s ↔ BackAll (opsOf f b) (On (getD X b 0)) s
       start-back s =
@@ -93,22 +93,22 @@ module _ (t edits places : List ℕ) (n : ℕ) where
         within = λ b s x. never (sym (ap (λ (w : ℕ). bit w s) (z b) ∙ bit-zero s) ∙ x);
       }
 
-  pub inv-last : (f : Func) → Facts t edits places f n → (X W : List ℕ) → Inv f X W → ((b : ℕ) → b < n → getD W b 0 ≡ 0) → (b s : ℕ) → On (getD X b 0) s ↔ WantedAtEnd f b s
+  pub inv-last : (f : Func) → Facts t edits touched f n → (X W : List ℕ) → Inv f X W → ((b : ℕ) → b < n → getD W b 0 ≡ 0) → (b s : ℕ) → On (getD X b 0) s ↔ WantedAtEnd f b s
   inv-last f h X W v z b s = (
     v .within b s,
     end-least f (λ c. On (getD X c 0)) (λ p c s m x. let w = h .succs-in p c m in v .settled c (w .0) (z c (w .0)) p s (w .1) x) b s,
   )
 
 -- a turn, by what its calls promise
-pub turned : (t edits places : List ℕ) (b : ℕ) (X W : List ℕ) {W₁ ps : List ℕ} {st : State} {x v : ℕ} {S T : NumberSet} → x ≡ getD X b 0 → W₁ ≡ set W b 0 → ((A : List ℕ) → Word x A → Same S A)
-    → ((A : List ℕ) → Lows t edits places → Same S A → Same T (blockBack t edits places b A)) → ((A : List ℕ) → Same T A → Word v A) → v < 2 ^ 64
-    → (Ready t → ps ≡ predsOf (sheetIn t) b) → st ≡ spread ps v (record { live = X; wait = W₁ }) → Turned t edits places b (record { live = X; wait = W }) st
-turned t edits places b X W {ps = ps} {v = v} ex ew s k w l p g =
+pub turned : (t edits touched : List ℕ) (b : ℕ) (X W : List ℕ) {W₁ ps : List ℕ} {st : State} {x v : ℕ} {S T : NumberSet} → x ≡ getD X b 0 → W₁ ≡ set W b 0 → ((A : List ℕ) → Word x A → Same S A)
+    → ((A : List ℕ) → Lows t edits → Same S A → Same T (blockBack t edits touched b A)) → ((A : List ℕ) → Same T A → Word v A) → v < 2 ^ 64
+    → (Ready t → ps ≡ predsOf (sheetIn t) b) → st ≡ spread ps v (record { live = X; wait = W₁ }) → Turned t edits touched b (record { live = X; wait = W }) st
+turned t edits touched b X W {ps = ps} {v = v} ex ew s k w l p g =
     record {
       start = v;
       preds = ps;
       word = l;
-      same = λ low A h. w (blockBack t edits places b A) (k A low (s A (λ k. ap (λ (y : ℕ). bit y k) ex ∙ h k)));
+      same = λ low A h. w (blockBack t edits touched b A) (k A low (s A (λ k. ap (λ (y : ℕ). bit y k) ex ∙ h k)));
       preds-are = p;
       gave = g ∙ ap (λ (y : List ℕ). spread ps v (record { live = X; wait = y })) ew;
     }

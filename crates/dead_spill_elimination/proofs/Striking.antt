@@ -193,16 +193,16 @@ module _ (r : Range) (edits marks₀ counts₀ : List ℕ) (S₀ : NumberSet) wh
 -- ---- an instruction
 
 module _ (w : Work) (l : List Item) (i : ℕ) where
-  pub inst-at : (t places : List ℕ) {edits marks counts : List ℕ} {S S′ : NumberSet} → Linked t places (w .sheet) (w .places) (w .edits) (w .counts) → Pos w l edits marks counts S
-      → Same S′ (instBack t places i (wantedFrom w l)) → Pos w (ins i ∷ l) edits marks counts S′
+  pub inst-at : (t touched : List ℕ) {edits marks counts : List ℕ} {S S′ : NumberSet} → Linked t touched (w .sheet) (w .places) (w .edits) (w .counts) → Pos w l edits marks counts S
+      → Same S′ (instBack touched i (wantedFrom w l)) → Pos w (ins i ∷ l) edits marks counts S′
   unfolding strikeItems wantedAt look
-  inst-at t places k p h =
+  inst-at t touched k p h =
       record {
         rows = p .rows;
         counted = p .counted;
         room = p .room;
         long = p .long;
-        wanted = same-in _ (instBack t places i (wantedFrom w l)) (wantedBefore (inst (instOf (w .sheet) (w .places) (w .edits) i)) (wantedFrom w l)) (k .at-inst i (wantedFrom w l)) h;
+        wanted = same-in _ (instBack touched i (wantedFrom w l)) (wantedBefore (inst (instOf (w .sheet) (w .places) (w .edits) i)) (wantedFrom w l)) (k .at-inst i (wantedFrom w l)) h;
       }
 
   pub rows-at : (js : List ℕ) → Rows w js l → Rows w js (ins i ∷ l)
@@ -210,13 +210,13 @@ module _ (w : Work) (l : List Item) (i : ℕ) where
   rows-at js x = record { there = x .there; fresh = x .fresh; low = x .low; few = x .few }
 
   -- the rows at it too
-  pub inst-done : (t places : List ℕ) {edits marks counts marks′ counts′ : List ℕ} {S S′ S″ : NumberSet} {r : Range} → r ≡ rangeIn t editIndex instLimit i
-      → Linked t places (w .sheet) (w .places) (w .edits) (w .counts) → Rows w (editsAt (w .sheet) i) l → Pos w l edits marks counts S
-      → Same S′ (instBack t places i (wantedFrom w l)) → (Rows w (numbers r) (ins i ∷ l) → Pos w (ins i ∷ l) edits marks counts S′ → Pos w (map row (numbers r) ++ (ins i ∷ l)) edits marks′ counts′ S″)
+  pub inst-done : (t touched : List ℕ) {edits marks counts marks′ counts′ : List ℕ} {S S′ S″ : NumberSet} {r : Range} → r ≡ rangeIn t editIndex instLimit i
+      → Linked t touched (w .sheet) (w .places) (w .edits) (w .counts) → Rows w (editsAt (w .sheet) i) l → Pos w l edits marks counts S
+      → Same S′ (instBack touched i (wantedFrom w l)) → (Rows w (numbers r) (ins i ∷ l) → Pos w (ins i ∷ l) edits marks counts S′ → Pos w (map row (numbers r) ++ (ins i ∷ l)) edits marks′ counts′ S″)
       → Pos w (map row (editsAt (w .sheet) i) ++ (ins i ∷ l)) edits marks′ counts′ S″
-  inst-done t places {edits = edits} {marks′ = marks′} {counts′ = counts′} {S″ = S″} q k x p h f =
+  inst-done t touched {edits = edits} {marks′ = marks′} {counts′ = counts′} {S″ = S″} q k x p h f =
       let e : numbers _ ≡ editsAt (w .sheet) i = ap numbers q ∙ k .rows i in
-      subst (λ (js : List ℕ). Pos w (map row js ++ (ins i ∷ l)) edits marks′ counts′ S″) e (f (rows-at (numbers _) (subst (λ (js : List ℕ). Rows w js l) (sym e) x)) (inst-at t places k p h))
+      subst (λ (js : List ℕ). Pos w (map row js ++ (ins i ∷ l)) edits marks′ counts′ S″) e (f (rows-at (numbers _) (subst (λ (js : List ℕ). Rows w js l) (sym e) x)) (inst-at t touched k p h))
 
 -- ---- a block
 
@@ -228,12 +228,12 @@ abbrev pub Unstruck : Work → List ℕ → Type 0
 Unstruck w is = (i j : ℕ) → In i is → In j (editsAt (w .sheet) i) → getD (w .now) j Nothing ≡ getD (w .edits) j Nothing
 
 abbrev pub Block : List ℕ → List ℕ → Range → List ℕ → List ℕ → List ℕ → NumberSet → List ℕ → List ℕ → NumberSet → ℕ → Type 0
-Block t places r edits marks₀ counts₀ S₀ marks counts S n =
+Block t touched r edits marks₀ counts₀ S₀ marks counts S n =
     Down r n × (length marks ≡ length marks₀) × (length counts ≡ length counts₀)
-    × ((w : Work) → Linked t places (w .sheet) (w .places) (w .edits) (w .counts) → Unstruck w (numbers r) → Pos w [] edits marks₀ counts₀ S₀ → Pos w (itemsOf (w .sheet) (passed r n)) edits marks counts S)
+    × ((w : Work) → Linked t touched (w .sheet) (w .places) (w .edits) (w .counts) → Unstruck w (numbers r) → Pos w [] edits marks₀ counts₀ S₀ → Pos w (itemsOf (w .sheet) (passed r n)) edits marks counts S)
 
-module _ (t places : List ℕ) (r : Range) (edits marks₀ counts₀ : List ℕ) (S₀ : NumberSet) where
-  pub block-first : Block t places r edits marks₀ counts₀ S₀ marks₀ counts₀ S₀ (r .to)
+module _ (t touched : List ℕ) (r : Range) (edits marks₀ counts₀ : List ℕ) (S₀ : NumberSet) where
+  pub block-first : Block t touched r edits marks₀ counts₀ S₀ marks₀ counts₀ S₀ (r .to)
   unfolding from flatMap
   block-first = (
     inl refl,
@@ -243,7 +243,7 @@ module _ (t places : List ℕ) (r : Range) (edits marks₀ counts₀ : List ℕ)
   )
 
   -- the rows at an instruction, where the later ones are struck
-  rows-there : (w : Work) (n : ℕ) → Down r n → r .from < n → Linked t places (w .sheet) (w .places) (w .edits) (w .counts) → Unstruck w (numbers r) → Rows w (editsAt (w .sheet) (n - 1)) (itemsOf (w .sheet) (passed r n))
+  rows-there : (w : Work) (n : ℕ) → Down r n → r .from < n → Linked t touched (w .sheet) (w .places) (w .edits) (w .counts) → Unstruck w (numbers r) → Rows w (editsAt (w .sheet) (n - 1)) (itemsOf (w .sheet) (passed r n))
   rows-there w n d h k x =
       let sh : Sheet = w .sheet in
       let at : (j : ℕ) → In j (editsAt sh (n - 1)) → (instructionOf sh j ≡ n - 1) × (j < length (sh .edits)) = λ j m. here sh (n - 1) j (in-map j (editsAt sh (n - 1)) .1 m) in
@@ -256,10 +256,10 @@ module _ (t places : List ℕ) (r : Range) (edits marks₀ counts₀ : List ℕ)
         few = k .few;
       }
 
-  pub block-next : {marks counts marks′ counts′ : List ℕ} {S S′ : NumberSet} (n : ℕ) → Block t places r edits marks₀ counts₀ S₀ marks counts S n → r .from < n
+  pub block-next : {marks counts marks′ counts′ : List ℕ} {S S′ : NumberSet} (n : ℕ) → Block t touched r edits marks₀ counts₀ S₀ marks counts S n → r .from < n
       → length marks′ ≡ length marks → length counts′ ≡ length counts
-      → ((w : Work) (l : List Item) → Linked t places (w .sheet) (w .places) (w .edits) (w .counts) → Rows w (editsAt (w .sheet) (n - 1)) l → Pos w l edits marks counts S
-      → Pos w (map row (editsAt (w .sheet) (n - 1)) ++ (ins (n - 1) ∷ l)) edits marks′ counts′ S′) → Block t places r edits marks₀ counts₀ S₀ marks′ counts′ S′ (n - 1)
+      → ((w : Work) (l : List Item) → Linked t touched (w .sheet) (w .places) (w .edits) (w .counts) → Rows w (editsAt (w .sheet) (n - 1)) l → Pos w l edits marks counts S
+      → Pos w (map row (editsAt (w .sheet) (n - 1)) ++ (ins (n - 1) ∷ l)) edits marks′ counts′ S′) → Block t touched r edits marks₀ counts₀ S₀ marks′ counts′ S′ (n - 1)
   unfolding flatMap
   block-next {marks} {counts} {marks′} {counts′} {S} {S′} n g h a b f = (
     down-next r n (g .0) h,
@@ -273,8 +273,8 @@ module _ (t places : List ℕ) (r : Range) (edits marks₀ counts₀ : List ℕ)
         (f w l k (rows-there w n (g .0) h k x) (g .3 w k x p))),
   )
 
-  pub block-last : {marks counts : List ℕ} {S : NumberSet} (b n : ℕ) → Block t places r edits marks₀ counts₀ S₀ marks counts S n → n ≤ r .from → r ≡ rangeIn t instIndex blockLimit b
-      → (w : Work) → Linked t places (w .sheet) (w .places) (w .edits) (w .counts) → Unstruck w (instsOf (w .sheet) b) → Pos w [] edits marks₀ counts₀ S₀
+  pub block-last : {marks counts : List ℕ} {S : NumberSet} (b n : ℕ) → Block t touched r edits marks₀ counts₀ S₀ marks counts S n → n ≤ r .from → r ≡ rangeIn t instIndex blockLimit b
+      → (w : Work) → Linked t touched (w .sheet) (w .places) (w .edits) (w .counts) → Unstruck w (instsOf (w .sheet) b) → Pos w [] edits marks₀ counts₀ S₀
       → (S : NumberSet) × Pos w (items (w .sheet) b) edits marks counts S
   unfolding items
   block-last {marks} {counts} {S} b n g h q w k x p =

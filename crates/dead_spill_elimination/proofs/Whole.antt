@@ -31,13 +31,14 @@ use Rattle.table.proofs.Stored.{edits-length}
 use Rattle.marks.specs.Marks.{applied}
 use Rattle.marks.proofs.Marking.{applied-exact}
 use Rattle.dead_spill_elimination.specs.Slots.{LowReads}
+use Rattle.dead_spill_elimination.specs.Touched.{touchedTo}
 use Rattle.dead_spill_elimination.specs.Worklist.{Word, Facts}
 use Rattle.dead_spill_elimination.specs.Strikes.{All, Outcome}
 use Rattle.dead_spill_elimination.specs.Held.{theEdits, thePlaces, Held, sweptEdits, Swept}
-use Rattle.dead_spill_elimination.proofs.Linking.{linked, low-inst}
+use Rattle.dead_spill_elimination.proofs.Linking.{linked, low-inst, low-row}
 use Rattle.dead_spill_elimination.proofs.Facing.{facts}
 
-module _ {t edits places counts : List ℕ} (h : Held t edits places counts) where
+module _ {t edits places counts touched : List ℕ} (h : Held t edits places counts) (told : touched ≡ touchedTo t places (replicate 1024 0) (countIn t 10)) where
   abbrev sh : Sheet
   sh = sheetIn t
 
@@ -52,7 +53,7 @@ module _ {t edits places counts : List ℕ} (h : Held t edits places counts) whe
 
   item-low : (x : Item) → LowReads (look sh ps es x)
   unfolding look
-  item-low (row j) = linked h .low-rows j
+  item-low (row j) = low-row h j
   item-low (ins i) = low-inst h i
 
   left-low : (l : List Item) (i : ℕ) (o : Op) (os : List Op) → drop i (map (look sh ps es) l) ≡ o ∷ os → LowReads o
@@ -70,7 +71,7 @@ module _ {t edits places counts : List ℕ} (h : Held t edits places counts) whe
       same-test (bit (getD X b 0) k) (isIn k (getD (ends f) b [])) (λ e. a .1 (w b k .0 e)) (λ e. w b k .1 (a .0 e))
 
   module _ (marks : List ℕ) (long : length marks ≡ length (sh .edits)) (unmarked : (j : ℕ) → getD marks j 0 ≡ 0) where
-    all-of : (X : List ℕ) → blockCount sh ≡ length X → ((b s : ℕ) → (bit (getD X b 0) s ≡ true) ↔ WantedAtEnd f b s) → All t places edits marks counts X
+    all-of : (X : List ℕ) → blockCount sh ≡ length X → ((b s : ℕ) → (bit (getD X b 0) s ≡ true) ↔ WantedAtEnd f b s) → All t touched edits marks counts X
     all-of X n w =
         let N : length es ≡ length (sh .edits) = edits-length edits (length (sh .edits)) in
         record {
@@ -78,7 +79,7 @@ module _ {t edits places counts : List ℕ} (h : Held t edits places counts) whe
           places-are = ps;
           edits = es;
           after = ends f;
-          linked = linked h;
+          linked = linked h told;
           rows = ap (editsIn edits) N;
           room = rw N (h .room);
           long = omega (arith, N, long);
@@ -99,11 +100,11 @@ module _ {t edits places counts : List ℕ} (h : Held t edits places counts) whe
         }
 
     pub swept : (n : ℕ) (X : List ℕ) {marks′ cells′ counts′ : List ℕ} → n ≡ blockCount sh → length X ≡ n
-        → ((f : Func) → Facts t edits places f n → (b s : ℕ) → (bit (getD X b 0) s ≡ true) ↔ WantedAtEnd f b s)
-        → ((g : All t places edits marks counts X) → Outcome g marks′ counts′) → length marks′ ≡ length marks → cells′ ≡ applied edits (take editLimit marks′) → Swept t edits places counts cells′ counts′
+        → ((f : Func) → Facts t edits touched f n → (b s : ℕ) → (bit (getD X b 0) s ≡ true) ↔ WantedAtEnd f b s)
+        → ((g : All t touched edits marks counts X) → Outcome g marks′ counts′) → length marks′ ≡ length marks → cells′ ≡ applied edits (take editLimit marks′) → Swept t edits places counts cells′ counts′
     swept n X {marks′} {cells′} {counts′} e l w k z q =
         let m : blockCount sh ≡ length X = sym (l ∙ e) in
-        let u : (b s : ℕ) → (bit (getD X b 0) s ≡ true) ↔ WantedAtEnd f b s = w f (rw e (facts h)) in
+        let u : (b s : ℕ) → (bit (getD X b 0) s ≡ true) ↔ WantedAtEnd f b s = w f (rw e (facts h told)) in
         let few : length marks′ ≤ editLimit = omega (arith, z, long, in-limits sh (h .ready .limits) .few-edits) in
         rw (q ∙ ap (applied edits) (take-all editLimit marks′ few)) (done X m u marks′ counts′ (k (all-of X m u)))
 

@@ -1,4 +1,5 @@
 pub mod Slots
+pub mod Touched
 pub mod Worklist
 pub mod Strikes
 pub mod Held

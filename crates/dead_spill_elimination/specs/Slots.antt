@@ -2,16 +2,17 @@
 use mathlib.Core.Path.{_≡_}
 use mathlib.Core.Bool.{Bool, false, cond, not}
 use mathlib.Core.List.{List, [], _∷_, _++_, flatMap}
-use Prim.Native.Nat.{ℕ, _-_, _≤_, _<_}
-use Rattle.laws.specs.Lists.{isIn, from}
+use Prim.Native.Nat.{ℕ, _-_, _≤_, _<_, _+_, _*_}
+use lib.ListN.{getD}
+use Rattle.laws.specs.Digits.{bit}
+use Rattle.laws.specs.Lists.{isIn, from, keep}
 use Rattle.bits.specs.Sets.{has}
 use Rattle.bits.specs.declared.sets.NumberSet.{NumberSet}
 use Rattle.entity.specs.Limits.{slotLimit, blockLimit, instLimit}
 use Rattle.entity.specs.declared.forms.Edit.{Edit}
 use Rattle.rules.specs.{Sheet.isUse, Forward.allDefs, Sweep.withoutAll, Sweep.wantedBefore}
 use Rattle.rules.specs.Function.{Op, edit, slotOf, Target, into, over, target, reads, In}
-use Rattle.table.specs.{Layout.editIndex, Layout.instIndex, Layout.opIndex, Sheet.sheetIn, View.opRow}
-use Rattle.table.specs.{Edits.editIn, Edits.placeIn, Index.rangeIn}
+use Rattle.table.specs.{Layout.editIndex, Layout.instIndex, Layout.opIndex, Sheet.sheetIn, View.opRow, Edits.editIn, Edits.placeIn, Index.rangeIn}
 use Rattle.table.specs.declared.index.Range.{Range}
 use Rattle.entity.specs.declared.forms.Place.{Place}
 
@@ -53,17 +54,21 @@ usesAt t places n = cond (isUse (opRow (sheetIn t) n .kind)) (slotOf (placeIn pl
 unfoldable pub editsBack : List ℕ → List ℕ → List ℕ → List ℕ
 editsBack edits js A = back (λ j B. wantedBefore (edit (editIn edits j)) B) js A
 
-unfoldable pub instBack : List ℕ → List ℕ → ℕ → List ℕ → List ℕ
-instBack t places i A = let js = numbers (rangeIn t opIndex instLimit i) in back (λ n B. usesAt t places n ++ B) js (back (λ n B. withoutAll (defsAt t n) B) js A)
+-- the numbers whose bit is set in a word
+unfoldable pub listOf : ℕ → List ℕ
+listOf x = keep (bit x) (from 0 64)
 
-module _ (t edits places : List ℕ) where
+-- by the two words of an instruction: the slots that it defines are taken away, those that it reads added
+unfoldable pub instBack : List ℕ → ℕ → List ℕ → List ℕ
+instBack touched i A = listOf (getD touched (i * 2 + 1) 0) ++ withoutAll (listOf (getD touched (i * 2) 0)) A
+
+module _ (t edits touched : List ℕ) where
   unfoldable pub stepBack : ℕ → List ℕ → List ℕ
-  stepBack i A = editsBack edits (numbers (rangeIn t editIndex instLimit i)) (instBack t places i A)
+  stepBack i A = editsBack edits (numbers (rangeIn t editIndex instLimit i)) (instBack touched i A)
 
   unfoldable pub blockBack : ℕ → List ℕ → List ℕ
   blockBack b A = back stepBack (numbers (rangeIn t instIndex blockLimit b)) A
 
-  -- the slots that are read are below the limit
-  pub record Lows : Type 0 where
-    pub low-uses : (n : ℕ) → Low (usesAt t places n)
-    pub low-edits : (i j : ℕ) → In j (numbers (rangeIn t editIndex instLimit i)) → LowReads (edit (editIn edits j))
+-- the slots that the edits at an instruction read are below the limit
+abbrev pub Lows : List ℕ → List ℕ → Type 0
+Lows t edits = (i j : ℕ) → In j (numbers (rangeIn t editIndex instLimit i)) → LowReads (edit (editIn edits j))

@@ -15,7 +15,7 @@ use Rattle.rules.specs.Sweep.{wantedBefore, wantedAt, struck, strikeItems, stri
 use Rattle.table.specs.{Layout.editIndex, Layout.instIndex, Layout.editWidth, Edits.editIn, Edits.editsIn, Edits.withEdit}
 use Rattle.table.specs.Index.{rangeIn}
 use Rattle.marks.specs.Marks.{applied}
-use Rattle.dead_spill_elimination.specs.Slots.{Same, Low, LowReads, deadIn, numbers, usesAt, instBack}
+use Rattle.dead_spill_elimination.specs.Slots.{Same, LowReads, deadIn, numbers, instBack}
 use Rattle.dead_spill_elimination.specs.Worklist.{Word}
 
 -- the counts of struck rows can be counted up
@@ -59,23 +59,22 @@ pub record Rows (w : Work) (js : List ℕ) (l : List Item) : Type 0 where
   pub low : (j : ℕ) → In j js → LowReads (edit (getD (w .edits) j Nothing))
   pub few : (k : ℕ) → getD (w .counts) k 0 + length (w .edits) < 4294967295
 
--- the table and the places are those of the sheet
-pub record Linked (t places : List ℕ) (sh : Sheet) (ps : List Place) (es : List Edit) (counts : List ℕ) : Type 0 where
+-- the table and the words of the instructions are those of the sheet
+pub record Linked (t touched : List ℕ) (sh : Sheet) (ps : List Place) (es : List Edit) (counts : List ℕ) : Type 0 where
   pub insts : (b : ℕ) → numbers (rangeIn t instIndex blockLimit b) ≡ instsOf sh b
   pub rows : (i : ℕ) → numbers (rangeIn t editIndex instLimit i) ≡ editsAt sh i
-  pub at-inst : (i : ℕ) (A : List ℕ) (k : ℕ) → isIn k (instBack t places i A) ≡ isIn k (wantedBefore (inst (instOf sh ps es i)) A)
-  pub low-uses : (n : ℕ) → Low (usesAt t places n)
+  pub at-inst : (i : ℕ) (A : List ℕ) (k : ℕ) → isIn k (instBack touched i A) ≡ isIn k (wantedBefore (inst (instOf sh ps es i)) A)
   pub low-rows : (j : ℕ) → LowReads (edit (getD es j Nothing))
   pub few : (k : ℕ) → getD counts k 0 + length es < 4294967295
   pub many : length es ≡ length (sh .edits)
 
 -- all blocks can be struck: `ends` has a word for each block, of the slots wanted at its end; nothing is marked
-pub record All (t places cells marks counts ends : List ℕ) : Type 0 where
+pub record All (t touched cells marks counts ends : List ℕ) : Type 0 where
   pub sheet : Sheet
   pub places-are : List Place
   pub edits : List Edit
   pub after : List (List ℕ)
-  pub linked : Linked t places sheet places-are edits counts
+  pub linked : Linked t touched sheet places-are edits counts
   pub rows : editsIn cells (length edits) ≡ edits
   pub room : length edits * editWidth ≤ length cells
   pub long : length edits ≤ length marks
@@ -84,6 +83,6 @@ pub record All (t places cells marks counts ends : List ℕ) : Type 0 where
   pub words : (b : ℕ) → b < length ends → Word (getD ends b 0) (getD after b [])
 
 -- and are by marks′, and counted in counts′
-pub record Outcome {t places cells marks counts ends : List ℕ} (h : All t places cells marks counts ends) (marks′ counts′ : List ℕ) : Type 0 where
+pub record Outcome {t touched cells marks counts ends : List ℕ} (h : All t touched cells marks counts ends) (marks′ counts′ : List ℕ) : Type 0 where
   pub struck-rows : editsIn (applied cells marks′) (length (h .edits)) ≡ strikeBlocks (h .sheet) (h .places-are) (h .edits) (h .after)
   pub counted : counts′ ≡ run struck counts (zip (h .edits) (strikeBlocks (h .sheet) (h .places-are) (h .edits) (h .after)))

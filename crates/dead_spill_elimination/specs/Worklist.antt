@@ -36,18 +36,18 @@ abbrev pub Word : ℕ → List ℕ → Type 0
 Word x A = (k : ℕ) → bit x k ≡ isIn k A
 
 -- a turn at block b: it waits no more, and what is wanted at its start is handed to its predecessors
-pub record Turned (t edits places : List ℕ) (b : ℕ) (st st′ : State) : Type 0 where
+pub record Turned (t edits touched : List ℕ) (b : ℕ) (st st′ : State) : Type 0 where
   pub start : ℕ
   pub preds : List ℕ
   pub word : start < 2 ^ 64
-  pub same : Lows t edits places → (A : List ℕ) → Word (getD (st .live) b 0) A → Word start (blockBack t edits places b A)
+  pub same : Lows t edits → (A : List ℕ) → Word (getD (st .live) b 0) A → Word start (blockBack t edits touched b A)
   pub preds-are : Ready t → preds ≡ predsOf (sheetIn t) b
   pub gave : st′ ≡ spread preds start (record { live = st .live; wait = set (st .wait) b 0 })
 
--- the table, the edits and the places are those of a function f of n blocks
-pub record Facts (t edits places : List ℕ) (f : Func) (n : ℕ) : Type 0 where
+-- the table, the edits and the words of the instructions are those of a function f of n blocks
+pub record Facts (t edits touched : List ℕ) (f : Func) (n : ℕ) : Type 0 where
   pub ready : Ready t
-  pub lows : Lows t edits places
-  pub back : (b : ℕ) → b < n → (A : List ℕ) (k : ℕ) → isIn k (blockBack t edits places b A) ≡ isIn k (wantedAt (opsOf f b) A)
+  pub lows : Lows t edits
+  pub back : (b : ℕ) → b < n → (A : List ℕ) (k : ℕ) → isIn k (blockBack t edits touched b A) ≡ isIn k (wantedAt (opsOf f b) A)
   pub preds-in : (b p : ℕ) → b < n → In p (predsOf (sheetIn t) b) → (p < n) × In b (nextOf f p)
   pub succs-in : (p b : ℕ) → In b (nextOf f p) → (b < n) × In p (predsOf (sheetIn t) b)

@@ -29,7 +29,7 @@ pub fn slots_of(w: u64) -> SlotSet
 }
 
 // The word of a set of slots.
-fn word_of(s: SlotSet) -> u64
+pub fn word_of(s: SlotSet) -> u64
     ensures { λ w. ⌜ ((A : List ℕ) → Same (s .0) A → Word w A) ⌝ }
 {
     let n = s.0;
@@ -76,29 +76,29 @@ fn hand_back(ps: &[u32], v: u64, ends: &mut [u64], wait: &mut [u8])
 }
 
 // A turn at block b, which waits no more.
-fn turn(t: &[u32], edits: &[u32], places: &[u32], b: u32, ends: &mut [u64], wait: &mut [u8])
-    ensures { λ _. ⌜ Turned (now (t .entry)) (now (edits .entry)) (now (places .entry)) b (record { live = now (ends .entry); wait = now (wait .entry) }) (record { live = now (ends .exit); wait = now (wait .exit) }) ⌝ }
+fn turn(t: &[u32], edits: &[u32], touched: &[u64], b: u32, ends: &mut [u64], wait: &mut [u8])
+    ensures { λ _. ⌜ Turned (now (t .entry)) (now (edits .entry)) (now (touched .entry)) b (record { live = now (ends .entry); wait = now (wait .entry) }) (record { live = now (ends .exit); wait = now (wait .exit) }) ⌝ }
 {
     let at = b as usize;
     store_u8(wait, at, 0);
     let end = slots_of(read_u64(ends, at));
-    let start = before_block(t, edits, places, Block(b), end);
+    let start = before_block(t, edits, touched, Block(b), end);
     hand_back(preds(t, Block(b)), word_of(start), ends, wait);
 }
 
 // From nothing wanted and every block waiting, until none waits.
-pub fn settle(t: &[u32], edits: &[u32], places: &[u32], ends: &mut [u64], wait: &mut [u8])
+pub fn settle(t: &[u32], edits: &[u32], touched: &[u64], ends: &mut [u64], wait: &mut [u8])
     requires few { ⌜ length (now wait) ≤ 64 ⌝ }
     requires many { ⌜ length (now ends) ≡ length (now wait) ⌝ }
     requires none { ⌜ ((b : ℕ) → getD (now ends) b 0 ≡ 0) ⌝ }
     requires all { ⌜ ((b : ℕ) → b < length (now wait) → getD (now wait) b 0 ≡ 0 → ⊥) ⌝ }
-    ensures { λ _. ⌜ ((f : Func) → Facts (now (t .entry)) (now (edits .entry)) (now (places .entry)) f (length (now (wait .entry))) → (b s : ℕ) → (bit (getD (now (ends .exit)) b 0) s ≡ true) ↔ WantedAtEnd f b s) ⌝ }
+    ensures { λ _. ⌜ ((f : Func) → Facts (now (t .entry)) (now (edits .entry)) (now (touched .entry)) f (length (now (wait .entry))) → (b s : ℕ) → (bit (getD (now (ends .exit)) b 0) s ≡ true) ↔ WantedAtEnd f b s) ⌝ }
 {
     loop {
         let h = highest(wait);
         if h == 0 {
             return;
         }
-        turn(t, edits, places, (h - 1) as u32, ends, wait);
+        turn(t, edits, touched, (h - 1) as u32, ends, wait);
     }
 }

@@ -2,4 +2,5 @@
 // The edits stand in lent cells, four to a row, which `table` reads; the core marks the rows that are dead, and `marks` strikes them.
 mod ends;
 pub mod sweep;
+mod touched;
 mod wanted;

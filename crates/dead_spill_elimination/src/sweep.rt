@@ -3,7 +3,7 @@
 ghost use mathlib.Core.Path.{_≡_};
 ghost use mathlib.Core.List.{List, [], _∷_, _++_, map};
 ghost use Prim.Native.Nat.{ℕ, _≤_, _<_};
-ghost use lib.ListN.{length, getD};
+ghost use lib.ListN.{length, getD, replicate};
 ghost use Rattle.bits.specs.declared.sets.NumberSet.{NumberSet};
 ghost use Rattle.entity.specs.Limits.{blockLimit, editLimit};
 ghost use Rattle.rules.specs.Sheet.{blockCount, instsOf};
@@ -14,11 +14,14 @@ ghost use Rattle.table.specs.Edits.{editIn};
 ghost use Rattle.marks.specs.Marks.{applied};
 ghost use Rattle.dead_spill_elimination.specs.Slots.{numbers};
 ghost use Rattle.dead_spill_elimination.specs.Strikes.{Few, Struck, Work, Pos, Rows, Linked, All, Outcome};
+ghost use Rattle.dead_spill_elimination.specs.Touched.{touchedTo};
 ghost use Rattle.dead_spill_elimination.specs.Held.{Held, Swept};
 ghost use Rattle.table.specs.Rows.{countIn};
 ghost use Rattle.table.specs.Sheet.{sheetIn};
 use crate::ends::settle;
 use crate::ends::slots_of;
+use crate::touched::LENGTH;
+use crate::touched::touch_all;
 use crate::wanted::before_edit;
 use crate::wanted::before_inst;
 use crate::wanted::is_dead;
@@ -105,30 +108,30 @@ fn strike_edits(
 fn strike_inst(
     t: &[u32],
     edits: &[u32],
-    places: &[u32],
+    touched: &[u64],
     marks: &mut [u8],
     counts: &mut [u32],
     i: Inst,
     live: SlotSet,
 ) -> SlotSet
-    ensures { λ r. ⌜ ((w : Work) (l : List Item) → Linked (now (t .entry)) (now (places .entry)) (w .sheet) (w .places) (w .edits) (w .counts) → Rows w (editsAt (w .sheet) (i .0)) l
+    ensures { λ r. ⌜ ((w : Work) (l : List Item) → Linked (now (t .entry)) (now (touched .entry)) (w .sheet) (w .places) (w .edits) (w .counts) → Rows w (editsAt (w .sheet) (i .0)) l
         → Pos w l (now (edits .entry)) (now (marks .entry)) (now (counts .entry)) (live .0)
         → Pos w (map row (editsAt (w .sheet) (i .0)) ++ (ins (i .0) ∷ l)) (now (edits .entry)) (now (marks .exit)) (now (counts .exit)) (r .0)) ⌝ }
 {
-    let after = before_inst(t, places, i, live);
+    let after = before_inst(touched, i, live);
     strike_edits(edits, marks, counts, edit_rows(t, i), after)
 }
 
 fn strike_block(
     t: &[u32],
     edits: &[u32],
-    places: &[u32],
+    touched: &[u64],
     marks: &mut [u8],
     counts: &mut [u32],
     b: Block,
     mut live: SlotSet,
 )
-    ensures { λ _. ⌜ ((w : Work) → Linked (now (t .entry)) (now (places .entry)) (w .sheet) (w .places) (w .edits) (w .counts)
+    ensures { λ _. ⌜ ((w : Work) → Linked (now (t .entry)) (now (touched .entry)) (w .sheet) (w .places) (w .edits) (w .counts)
         → ((i j : ℕ) → In i (instsOf (w .sheet) (b .0)) → In j (editsAt (w .sheet) i) → getD (w .now) j Edit.Nothing ≡ getD (w .edits) j Edit.Nothing)
         → Pos w [] (now (edits .entry)) (now (marks .entry)) (now (counts .entry)) (live .0)
         → (S : NumberSet) × Pos w (items (w .sheet) (b .0)) (now (edits .entry)) (now (marks .exit)) (now (counts .exit)) S) ⌝ }
@@ -137,7 +140,7 @@ fn strike_block(
     let mut i = insts.to;
     while insts.from < i {
         i -= 1;
-        live = strike_inst(t, edits, places, marks, counts, Inst(i), live);
+        live = strike_inst(t, edits, touched, marks, counts, Inst(i), live);
     }
 }
 
@@ -145,19 +148,19 @@ fn strike_block(
 fn strike_all(
     t: &[u32],
     edits: &[u32],
-    places: &[u32],
+    touched: &[u64],
     marks: &mut [u8],
     counts: &mut [u32],
     ends: &[u64],
 )
     requires { ⌜ length (now ends) ≤ blockLimit ⌝ }
-    ensures { λ _. ⌜ ((h : All (now (t .entry)) (now (places .entry)) (now (edits .entry)) (now (marks .entry)) (now (counts .entry)) (now (ends .entry)))
+    ensures { λ _. ⌜ ((h : All (now (t .entry)) (now (touched .entry)) (now (edits .entry)) (now (marks .entry)) (now (counts .entry)) (now (ends .entry)))
         → Outcome h (now (marks .exit)) (now (counts .exit))) ⌝ }
 {
     let mut b: usize = 0;
     while b < ends.len() {
         let live = slots_of(ends[b]);
-        strike_block(t, edits, places, marks, counts, Block(b as u32), live);
+        strike_block(t, edits, touched, marks, counts, Block(b as u32), live);
         b += 1;
     }
 }
@@ -184,12 +187,12 @@ fn edit_count(t: &[u32]) -> usize
     ROWS
 }
 
-// The sweep, with a word of slots and a flag for each block and a mark for each edit. The core marks the edits that are dead; those that are marked are struck
+// The sweep, with two words of slots for each instruction, a word of slots and a flag for each block and a mark for each edit. The core marks the edits that are dead; those that are marked are struck
 // in a lent list of edit records.
 fn sweep_in(
     t: &[u32],
     edits: &mut [u32],
-    places: &[u32],
+    touched: &[u64],
     counts: &mut [u32],
     ends: &mut [u64],
     wait: &mut [u8],
@@ -200,12 +203,13 @@ fn sweep_in(
     requires none { ⌜ ((b : ℕ) → getD (now ends) b 0 ≡ 0) ⌝ }
     requires all { ⌜ ((b : ℕ) → b < length (now wait) → getD (now wait) b 0 ≡ 0 → ⊥) ⌝ }
     requires unmarked { ⌜ ((n : ℕ) → getD (now marks) n 0 ≡ 0) ⌝ }
-    ensures { λ _. ⌜ (Held (now (t .entry)) (now (edits .entry)) (now (places .entry)) (now (counts .entry)) → length (now (wait .entry)) ≡ blockCount (sheetIn (now (t .entry)))
+    ensures { λ _. ⌜ ((places : List ℕ) → now (touched .entry) ≡ touchedTo (now (t .entry)) places (replicate 1024 0) (countIn (now (t .entry)) 10)
+        → Held (now (t .entry)) (now (edits .entry)) places (now (counts .entry)) → length (now (wait .entry)) ≡ blockCount (sheetIn (now (t .entry)))
         → length (now (marks .entry)) ≡ length (sheetIn (now (t .entry)) .edits)
-        → Swept (now (t .entry)) (now (edits .entry)) (now (places .entry)) (now (counts .entry)) (now (edits .exit)) (now (counts .exit))) ⌝ }
+        → Swept (now (t .entry)) (now (edits .entry)) places (now (counts .entry)) (now (edits .exit)) (now (counts .exit))) ⌝ }
 {
-    settle(t, edits, places, ends, wait);
-    strike_all(t, edits, places, marks, counts, ends);
+    settle(t, edits, touched, ends, wait);
+    strike_all(t, edits, touched, marks, counts, ends);
     mark_cells(edits, marks);
 }
 
@@ -214,6 +218,8 @@ pub fn sweep_edits(t: &[u32], edits: &mut [u32], places: &[u32], counts: &mut [u
     ensures { λ _. ⌜ (Held (now (t .entry)) (now (edits .entry)) (now (places .entry)) (now (counts .entry))
         → Swept (now (t .entry)) (now (edits .entry)) (now (places .entry)) (now (counts .entry)) (now (edits .exit)) (now (counts .exit))) ⌝ }
 {
+    let mut touched = [0u64; LENGTH];
+    touch_all(t, places, &mut touched);
     let mut ends = [0u64; BLOCKS];
     let mut wait = [1u8; BLOCKS];
     let mut marks = [0u8; ROWS];
@@ -222,7 +228,7 @@ pub fn sweep_edits(t: &[u32], edits: &mut [u32], places: &[u32], counts: &mut [u
     sweep_in(
         t,
         edits,
-        places,
+        &touched,
         counts,
         &mut ends[..n],
         &mut wait[..n],

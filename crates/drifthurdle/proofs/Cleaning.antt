@@ -1,14 +1,13 @@
--- For `cleaned` of src/lib.rt, from the walk before the first block to the text of the answer: the forward rules, the sweep, the rows that stand in the cells. Assumes nothing.
+-- For `cleaned_in` of src/lib.rt, from the walk before the first block to the text of the answer: the forward rules, the sweep, the rows that stand in the cells. Assumes nothing.
 use mathlib.Core.Path.{_≡_, refl, sym, _∙_, ap₂}
 use mathlib.Core.Bool.{Bool, true, false}
 use mathlib.Core.List.{List, zip}
 use mathlib.Core.Option.{none}
-use Prim.Native.Nat.{ℕ, _+_, _*_, _<_}
+use Prim.Native.Nat.{ℕ, _+_, _*_, _≤_, _<_}
 use native.Mathlib.Omega.{arith}
 use lib.ListN.{length, replicate}
 use lib.Seq.{take-all}
 use Rattle.laws.specs.Fold.{run}
-use Rattle.entity.specs.Limits.{editLimit, operandLimit}
 use Rattle.entity.specs.declared.forms.Place.{Place}
 use Rattle.entity.specs.declared.forms.Place.the-variants.{Reg}
 use Rattle.entity.specs.declared.forms.Edit.{Edit}
@@ -51,7 +50,7 @@ module _ {t : List ℕ} (g : Ready t) (pass : firstRefusal (checks (sheetIn t)) 
 
   -- ---- after the forward rules
 
-  pub optimised-written : {e p e′ p′ c′ : List ℕ} → EditsLoaded t e (countIn t 12) → length e ≡ editLimit * editWidth → PlacesLoaded t p (countIn t 10) → length p ≡ operandLimit
+  pub optimised-written : {e p e′ p′ c′ : List ℕ} → EditsLoaded t e (countIn t 12) → countIn t 12 * editWidth ≤ length e → PlacesLoaded t p (countIn t 10) → countIn t 10 ≤ length p
       → (Ordered t → (n : ℕ) (w : Walk) → w .rec ≡ fresh → Written t e p (replicate 9 0) (n + walkMost) w → Written t e′ p′ c′ n (optimise sh level w))
       → Written t e′ p′ c′ 4000000000 w
   unfolding start

@@ -186,12 +186,12 @@ module _ {t : List ℕ} (g : Ready t) (a : Accepted (sheetIn t)) where
         let k : j < countIn t 10 = rw many-ops at l in
         List·getD-map (λ (o : OpRow). o .place) (sh .ops) j no-op ∙ place-is j k ∙ sym (places-at places N j (no-op .place) l))
 
-    pub started : length edits ≡ editLimit * editWidth → length places ≡ operandLimit → Written t edits places (replicate 9 0) 4200000000 (start sh)
+    pub started : countIn t 12 * editWidth ≤ length edits → countIn t 10 ≤ length places → Written t edits places (replicate 9 0) 4200000000 (start sh)
     unfolding start
     started x y =
         record {
-          edit-room = omega (arith, many-edits, edits-fit);
-          place-room = omega (arith, many-ops, places-fit);
+          edit-room = omega (arith, many-edits);
+          place-room = omega (arith, many-ops);
           in-cells = record {
             edit-cells = λ j h. E .exact j (rw many-edits at h);
             is-edits = started-edits;

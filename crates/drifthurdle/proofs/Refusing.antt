@@ -13,7 +13,7 @@ use mir.Syntax.{w64}
 use mir.Val.{SFits, toZ}
 use lib.ListN.{length}
 use borrow.Author.Tests.{lt-ltb, le-leb, lt-leb, leb-true}
-use Rattle.laws.proofs.Cases.{by-bool, by-option, some-ne-none}
+use Rattle.laws.proofs.Cases.{by-bool, by-lt, by-option, some-ne-none}
 use Rattle.entity.specs.Limits.{byteLimit}
 use Rattle.entity.specs.Forms.{levelOf, sumOf}
 use Rattle.entity.specs.declared.forms.Level.{Level}
@@ -25,9 +25,11 @@ use Rattle.rules.specs.Rows.{cellsOf, sheetOk, rowsOf}
 use Rattle.rules.specs.Sheet.{Sheet, sheetOf}
 use Rattle.rules.specs.Accept.{withinLimits, namesHold, operandsHold, editsHold}
 use Rattle.rules.specs.Answer.{Answer, refused, written, firstRefusal, blockChecks, checks, checked, called, answer, cleaned, fitted, buffer, returned}
+use Rattle.table.specs.Layout.{tableLength}
 use Rattle.table.specs.Table.{Indexed}
 use Rattle.table.specs.Sheet.{sheetIn}
 use Rattle.table.specs.Index.{Built, Ready}
+use Rattle.table.proofs.Parts.{room-short, room-middle, room-long}
 use Rattle.table.proofs.Sheets.{sheet-in-is}
 use Rattle.accept.specs.Blocks.{asChecked}
 use Rattle.drifthurdle.specs.Call.{sheetRefusal, TableOf, sheetAnswer, asOutcome, Gives}
@@ -45,6 +47,14 @@ is-false {b = false} e = refl
 pub is-true : {b : Bool} → not b ≡ false → b ≡ true
 is-true {b = true} e = refl
 is-true {b = false} e = absurd (false≢true (sym e))
+
+-- ---- a table that has room
+
+pub middle-enough : (n : ℕ) → n ≤ 8192 → tableLength n ≤ 7384
+middle-enough n h = by-lt 1024 n (λ l. omega (arith, room-middle n l h)) (λ l. omega (arith, room-short n l))
+
+pub long-enough : (n : ℕ) → tableLength n ≤ 45612
+long-enough n = by-lt 8192 n (λ l. omega (arith, room-long n (omega arith) l)) (λ l. omega (arith, middle-enough n l))
 
 -- ---- 1
 
@@ -69,6 +79,11 @@ rows-ok s rs e =
 pub one-rows : (s : List ℕ) {rs rs′ : List (List ℕ)} {t : List ℕ} → rowsOf s ≡ some rs → rowsOf s ≡ some rs′ → (firstRefusal (checks (sheetOf rs)) ≡ none → TableOf rs t)
     → firstRefusal (checks (sheetOf rs′)) ≡ none → TableOf rs′ t
 one-rows s {rs} {rs′} e f g = let z : some rs ≡ some rs′ = sym e ∙ f in let q : rs ≡ rs′ = cc in rw q at g
+
+-- a sheet over 65,536 bytes
+pub too-long : (s : List ℕ) (level : Level) (swept : Bool) (capacity : ℕ) (out : List ℕ) → byteLimit < length s → Gives (sheetAnswer s level swept capacity) (Outcome.Refused Rows) out out
+unfolding sheetAnswer asOutcome buffer rowsOf Option·elim
+too-long s level swept capacity out h = let e : rowsOf s ≡ none = rw (lt-leb (length s) byteLimit h) in rw e (refl, refl)
 
 pub rows-refuse : (s : List ℕ) → rowsOf s ≡ none → Checked.Refused Rows ≡ asChecked (sheetRefusal s)
 unfolding sheetRefusal asChecked Option·elim

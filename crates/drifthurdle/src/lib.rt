@@ -29,6 +29,7 @@ use accept::blocks::check_blocks;
 use accept::constraints::operands_hold;
 use accept::edits::edits_hold;
 use answer::rows::COUNTS;
+use answer::rows::most;
 use answer::rows::render;
 use bits::tables::read_u32;
 use bits::tables::store_u32;
@@ -38,6 +39,7 @@ use entity::forms::Level;
 use entity::forms::Refusal;
 use entity::numbers::EditRow;
 use entity::numbers::OperandRow;
+use entity::numbers::SheetByte;
 use move_optimizer::levels::optimise;
 use names::limits::within_limits;
 use names::names::names_hold;
@@ -49,6 +51,9 @@ use table::index::build;
 use table::rows::Kind;
 use table::rows::count;
 use table::rows::row_of;
+
+// The most bytes of a sheet.
+const BYTES: usize = SheetByte::LIMIT as usize;
 
 pub enum Outcome {
     Refused(Refusal),
@@ -77,7 +82,7 @@ fn check_ready(t: &[u32]) -> Checked
 
 // 2 to 6 and 9 to 12 in the table's order; the index is built once the limits hold.
 fn check(t: &mut [u32]) -> Checked
-    ensures { λ c. ⌜ ((rs : List (List ℕ)) → Indexed rs (now (t .entry)) → sheetOk rs ≡ true → tableLength ≤ length (now (t .entry))
+    ensures { λ c. ⌜ ((rs : List (List ℕ)) → Indexed rs (now (t .entry)) → sheetOk rs ≡ true
         → (c ≡ asChecked (firstRefusal (checks (sheetOf rs)))) × (firstRefusal (checks (sheetOf rs)) ≡ none → TableOf rs (now (t .exit)))) ⌝ }
 {
     if !within_limits(t) {
@@ -89,7 +94,7 @@ fn check(t: &mut [u32]) -> Checked
 
 // 1 to 6 and 9 to 12: the sheet into the table.
 fn read_and_check(sheet: &[u8], t: &mut [u32]) -> Checked
-    ensures { λ c. ⌜ (tableLength ≤ length (now (t .entry)) → (c ≡ asChecked (sheetRefusal (now (sheet .entry))))
+    ensures { λ c. ⌜ (tableLength (length (now (sheet .entry))) ≤ length (now (t .entry)) → (c ≡ asChecked (sheetRefusal (now (sheet .entry))))
         × ((rs : List (List ℕ)) → rowsOf (now (sheet .entry)) ≡ some rs → firstRefusal (checks (sheetOf rs)) ≡ none → TableOf rs (now (t .exit)))) ⌝ }
 {
     if !read(sheet, t) {
@@ -124,7 +129,7 @@ fn load_places(t: &[u32], places: &mut [u32])
 }
 
 // The answer is measured first, and written only if it fits.
-fn fitted(t: &[u32], edits: &[u32], places: &[u32], counts: &[u32], out: &mut [u8]) -> Outcome
+fn measured(t: &[u32], edits: &[u32], places: &[u32], counts: &[u32], out: &mut [u8]) -> Outcome
     ensures { λ o. ⌜ ((w : Walk) → Stands (now (t .entry)) (now (edits .entry)) (now (places .entry)) (now (counts .entry)) w
         → Gives (fitted (output (sheetIn (now (t .entry))) w) (length (now (out .entry)))) o (now (out .entry)) (now (out .exit))) ⌝ }
 {
@@ -137,31 +142,117 @@ fn fitted(t: &[u32], edits: &[u32], places: &[u32], counts: &[u32], out: &mut [u
     Outcome::Written(length)
 }
 
-fn cleaned(t: &[u32], level: Level, swept: bool, out: &mut [u8]) -> Outcome
+// The same; an answer that is sure to fit is not measured.
+fn fitted(t: &[u32], edits: &[u32], places: &[u32], counts: &[u32], out: &mut [u8]) -> Outcome
+    ensures { λ o. ⌜ ((w : Walk) → Stands (now (t .entry)) (now (edits .entry)) (now (places .entry)) (now (counts .entry)) w
+        → Gives (fitted (output (sheetIn (now (t .entry))) w) (length (now (out .entry)))) o (now (out .entry)) (now (out .exit))) ⌝ }
+{
+    if most(t) <= out.len() {
+        return Outcome::Written(render(t, edits, places, counts, out));
+    }
+    measured(t, edits, places, counts, out)
+}
+
+fn cleaned_in(
+    t: &[u32],
+    level: Level,
+    swept: bool,
+    edits: &mut [u32],
+    places: &mut [u32],
+    out: &mut [u8],
+) -> Outcome
+    ensures { λ o. ⌜ (Ready (now (t .entry)) → firstRefusal (checks (sheetIn (now (t .entry)))) ≡ none → countIn (now (t .entry)) 12 * editWidth ≤ length (now (edits .entry)) → countIn (now (t .entry)) 10 ≤ length (now (places .entry))
+        → Gives (fitted (cleaned (sheetIn (now (t .entry))) level swept) (length (now (out .entry)))) o (now (out .entry)) (now (out .exit))) ⌝ }
+{
+    let mut counts = [0u32; COUNTS];
+    load_edits(t, edits);
+    load_places(t, places);
+    optimise(t, level, edits, places, &mut counts);
+    if swept {
+        sweep_edits(t, edits, places, &mut counts);
+        return fitted(t, edits, places, &counts, out);
+    }
+    fitted(t, edits, places, &counts, out)
+}
+
+// Room for 64 edits and 64 operands, where there are no more.
+fn cleaned_small(t: &[u32], level: Level, swept: bool, out: &mut [u8]) -> Outcome
+    ensures { λ o. ⌜ (Ready (now (t .entry)) → firstRefusal (checks (sheetIn (now (t .entry)))) ≡ none → countIn (now (t .entry)) 12 ≤ 64 → countIn (now (t .entry)) 10 ≤ 64
+        → Gives (fitted (cleaned (sheetIn (now (t .entry))) level swept) (length (now (out .entry)))) o (now (out .entry)) (now (out .exit))) ⌝ }
+{
+    let mut edits = [0u32; 64 * WIDTH];
+    let mut places = [0u32; 64];
+    cleaned_in(t, level, swept, &mut edits, &mut places, out)
+}
+
+fn cleaned_large(t: &[u32], level: Level, swept: bool, out: &mut [u8]) -> Outcome
     ensures { λ o. ⌜ (Ready (now (t .entry)) → firstRefusal (checks (sheetIn (now (t .entry)))) ≡ none
         → Gives (fitted (cleaned (sheetIn (now (t .entry))) level swept) (length (now (out .entry)))) o (now (out .entry)) (now (out .exit))) ⌝ }
 {
     let mut edits = [0u32; EditRow::LIMIT as usize * WIDTH];
     let mut places = [0u32; OperandRow::LIMIT as usize];
-    let mut counts = [0u32; COUNTS];
-    load_edits(t, &mut edits);
-    load_places(t, &mut places);
-    optimise(t, level, &mut edits, &mut places, &mut counts);
-    if swept {
-        sweep_edits(t, &mut edits, &places, &mut counts);
-        return fitted(t, &edits, &places, &counts, out);
+    cleaned_in(t, level, swept, &mut edits, &mut places, out)
+}
+
+fn cleaned(t: &[u32], level: Level, swept: bool, out: &mut [u8]) -> Outcome
+    ensures { λ o. ⌜ (Ready (now (t .entry)) → firstRefusal (checks (sheetIn (now (t .entry)))) ≡ none
+        → Gives (fitted (cleaned (sheetIn (now (t .entry))) level swept) (length (now (out .entry)))) o (now (out .entry)) (now (out .exit))) ⌝ }
+{
+    if count(t, Kind::EDIT) <= 64 {
+        if count(t, Kind::OP) <= 64 {
+            return cleaned_small(t, level, swept, out);
+        }
     }
-    fitted(t, &edits, &places, &counts, out)
+    cleaned_large(t, level, swept, out)
+}
+
+// The sheet by way of a table that has room for it.
+fn clean_in(t: &mut [u32], sheet: &[u8], level: Level, swept: bool, out: &mut [u8]) -> Outcome
+    ensures { λ o. ⌜ (tableLength (length (now (sheet .entry))) ≤ length (now (t .entry))
+        → Gives (sheetAnswer (now (sheet .entry)) level swept (length (now (out .entry)))) o (now (out .entry)) (now (out .exit))) ⌝ }
+{
+    match read_and_check(sheet, t) {
+        Checked::Refused(r) => Outcome::Refused(r),
+        Checked::Accepted => cleaned(t, level, swept, out),
+    }
+}
+
+fn clean_short(sheet: &[u8], level: Level, swept: bool, out: &mut [u8]) -> Outcome
+    ensures { λ o. ⌜ (length (now (sheet .entry)) ≤ 1024
+        → Gives (sheetAnswer (now (sheet .entry)) level swept (length (now (out .entry)))) o (now (out .entry)) (now (out .exit))) ⌝ }
+{
+    let mut t = [0u32; table::SHORT];
+    clean_in(&mut t, sheet, level, swept, out)
+}
+
+fn clean_middle(sheet: &[u8], level: Level, swept: bool, out: &mut [u8]) -> Outcome
+    ensures { λ o. ⌜ (length (now (sheet .entry)) ≤ 8192
+        → Gives (sheetAnswer (now (sheet .entry)) level swept (length (now (out .entry)))) o (now (out .entry)) (now (out .exit))) ⌝ }
+{
+    let mut t = [0u32; table::MIDDLE];
+    clean_in(&mut t, sheet, level, swept, out)
+}
+
+fn clean_long(sheet: &[u8], level: Level, swept: bool, out: &mut [u8]) -> Outcome
+    ensures { λ o. ⌜ Gives (sheetAnswer (now (sheet .entry)) level swept (length (now (out .entry)))) o (now (out .entry)) (now (out .exit)) ⌝ }
+{
+    let mut t = [0u32; table::LONG];
+    clean_in(&mut t, sheet, level, swept, out)
 }
 
 fn read_and_clean(sheet: &[u8], level: Level, swept: bool, out: &mut [u8]) -> Outcome
     ensures { λ o. ⌜ Gives (sheetAnswer (now (sheet .entry)) level swept (length (now (out .entry)))) o (now (out .entry)) (now (out .exit)) ⌝ }
 {
-    let mut t = [0u32; table::LENGTH];
-    match read_and_check(sheet, &mut t) {
-        Checked::Refused(r) => Outcome::Refused(r),
-        Checked::Accepted => cleaned(&t, level, swept, out),
+    if sheet.len() <= 1024 {
+        return clean_short(sheet, level, swept, out);
     }
+    if sheet.len() <= 8192 {
+        return clean_middle(sheet, level, swept, out);
+    }
+    if BYTES < sheet.len() {
+        return Outcome::Refused(Refusal::Rows);
+    }
+    clean_long(sheet, level, swept, out)
 }
 
 pub fn clean(sheet: &[u8], level: u32, sweep: u32, out: &mut [u8]) -> Outcome

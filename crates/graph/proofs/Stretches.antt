@@ -12,8 +12,8 @@ use borrow.Author.Tests.{lt-ltb, le-ltb}
 use Rattle.laws.proofs.Cases.{by-lt}
 use Rattle.entity.specs.Limits.{blockLimit}
 use Rattle.rules.specs.Sheet.{succsOf, predsOf}
-use Rattle.table.specs.Layout.{kindIndex, predIndex, rowLimit, rowStarts, succIndex}
-use Rattle.table.specs.Rows.{firstIn, countIn, kindRow}
+use Rattle.table.specs.Layout.{kindIndex, predIndex, rowLimit, succIndex}
+use Rattle.table.specs.Rows.{startIn, firstIn, countIn, kindRow}
 use Rattle.table.specs.Table.{Indexed}
 use Rattle.table.specs.Sheet.{sheetIn}
 use Rattle.table.specs.Index.{rangeIn, Ready}
@@ -22,7 +22,7 @@ use Rattle.table.proofs.Holding.{start-later, start-within}
 use Rattle.table.proofs.Kindred.{begin-within}
 use Rattle.table.proofs.Ranges.{range-within}
 use Rattle.table.proofs.Lookups.{succs-below, preds-below, succs-of, preds-of}
-use Rattle.graph.specs.Graph.{chosen, partIn, startIn, baseIn, stretchIn, listIn}
+use Rattle.graph.specs.Graph.{chosen, partIn, baseIn, stretchIn, listIn}
 use Rattle.graph.specs.declared.Direction.{Direction}
 use Rattle.graph.specs.declared.Direction.the-variants.{Successors, Predecessors}
 
@@ -48,7 +48,7 @@ part-of-stretch l base s e end h u =
 -- the list of a range's one row, in the stretch of its kind
 module _ {rs : List (List ℕ)} {t : List ℕ} (i : Indexed rs t) (k : ℕ) (small : k < 13) (r : Range) (within : r .from < r .to → r .from < countIn t k) where
   pub list-in : partIn (listIn t k r) (stretchIn t k (k + 1)) ≡ cond (ltb (r .from) (r .to)) (drop 2 (kindRow t k (r .from))) []
-  unfolding partIn listIn kindRow stretchIn baseIn startIn
+  unfolding partIn listIn kindRow stretchIn baseIn
   list-in =
       by-lt (r .from) (r .to)
       (λ h.
@@ -64,8 +64,7 @@ module _ {rs : List (List ℕ)} {t : List ℕ} (i : Indexed rs t) (k : ℕ) (sma
       let e1 : f + n + 1 + (getD t (kindIndex + (k + 1)) 0 - (f + n + 1)) ≡ getD t (kindIndex + (k + 1)) 0 = omega arith in
       let high : startIn t (f + n + 1) ≤ startIn t (getD t (kindIndex + (k + 1)) 0) = rw e1 at (start-later (i .held) (f + n + 1) (getD t (kindIndex + (k + 1)) 0 - (f + n + 1)) (omega arith)) in
       let sm : startIn t (f + n) % 65536 ≡ startIn t (f + n) = mod-eq-of-lt (omega (arith, start-within (i .held) (f + n) (omega arith))) in
-      let e2 : rowStarts + (f + n) + 1 ≡ rowStarts + (f + n + 1) = omega arith in
-      rw (lt-ltb n (r .to) h, lt-ltb n (countIn t k) w, fm, nm, sm, e2)
+      rw (lt-ltb n (r .to) h, lt-ltb n (countIn t k) w, fm, nm, sm)
       (part-of-stretch t (baseIn t k) (startIn t (f + n)) (startIn t (f + n + 1)) (baseIn t (k + 1)) low high))
       (λ h. rw (le-ltb (r .from) (r .to) h))
 
@@ -94,10 +93,6 @@ pub preds-by : (t l : List ℕ) (b : ℕ) → (Ready t → l ≡ chosen Predeces
 unfolding chosen
 preds-by t l b f = f
 
-pub start-by : (t : List ℕ) (i s : ℕ) → s ≡ getD t (rowStarts + i) 0 → s ≡ startIn t i
-unfolding startIn
-start-by t i s e = e
-
 -- the range of a list, as the code reads it
 pub list-none : (t : List ℕ) (k : ℕ) (r : Range) → r .to ≤ r .from → record { from = 0; to = 0 } ≡ listIn t k r
 unfolding listIn
@@ -110,7 +105,7 @@ list-some t k r base f s e x y h p q v w a b = rw (lt-ltb (r .from) (r .to) h, a
 
 pub base-by : (t : List ℕ) (k f s : ℕ) → f ≡ firstIn t k → s ≡ startIn t f → s ≡ baseIn t k
 unfolding baseIn
-base-by t k f s p q = q ∙ ap (startIn t) p
+base-by t k f s p q = q ∙ ap (λ (i : ℕ). startIn t i) p
 
 pub stretch-by : (t : List ℕ) (k next a b : ℕ) (l : List ℕ) → a ≡ baseIn t k → b ≡ baseIn t next → l ≡ take (b - a) (drop a t) → l ≡ stretchIn t k next
 unfolding stretchIn

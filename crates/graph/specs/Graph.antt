@@ -3,8 +3,8 @@ use mathlib.Core.Bool.{cond}
 use mathlib.Core.List.{List}
 use Prim.Native.Nat.{ℕ, _+_, _-_, _%_}
 use lib.Dec.{ltb}
-use lib.ListN.{getD, take, drop}
-use Rattle.table.specs.{Layout.rowStarts, Rows.firstIn}
+use lib.ListN.{take, drop}
+use Rattle.table.specs.Rows.{startIn, firstIn}
 use Rattle.table.specs.declared.index.Range.{Range}
 use Rattle.graph.specs.declared.Direction.{Direction, the-variants.Successors, the-variants.Predecessors}
 
@@ -17,10 +17,7 @@ chosen Predecessors s p = p
 unfoldable pub partIn : Range → List ℕ → List ℕ
 partIn r l = take (r .to - r .from) (drop (r .from) l)
 
--- where row i starts, and where the rows of kind k do
-unfoldable pub startIn : List ℕ → ℕ → ℕ
-startIn t i = getD t (rowStarts + i) 0
-
+-- where the rows of kind k start
 unfoldable pub baseIn : List ℕ → ℕ → ℕ
 baseIn t k = startIn t (firstIn t k)
 

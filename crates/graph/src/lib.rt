@@ -6,18 +6,18 @@ ghost use Rattle.rules.specs.Forward.{dominates};
 ghost use Rattle.table.specs.Layout.{predIndex, succIndex};
 ghost use Rattle.table.specs.Sheet.{sheetIn};
 ghost use Rattle.table.specs.Index.{rangeIn, Ready};
-ghost use Rattle.graph.specs.Graph.{chosen, partIn, startIn, baseIn, stretchIn, listIn};
+ghost use Rattle.graph.specs.Graph.{chosen, partIn, baseIn, stretchIn, listIn};
 use bits::numbers::less;
 use bits::tables::read_u32;
 use entity::numbers::Block;
 use entity::sets::FoundBlock;
 use table::INDEX;
-use table::STARTS;
 use table::index::Range;
 use table::index::pred_rows;
 use table::index::succ_rows;
 use table::rows::Kind;
 use table::rows::part;
+use table::rows::start;
 use table::view::idom;
 
 pub enum Direction {
@@ -37,18 +37,11 @@ fn neighbours<'a>(d: Direction, succs: &'a [u32], preds: &'a [u32], at: Range) -
     }
 }
 
-// Where row i starts.
-fn start(t: &[u32], i: u32) -> u32
-    ensures { λ r. ⌜ r ≡ startIn (now (t .entry)) i ⌝ }
-{
-    read_u32(t, STARTS + i as usize)
-}
-
 // Where the rows of a kind start.
 fn first_cell(t: &[u32], k: Kind) -> u32
     ensures { λ r. ⌜ r ≡ baseIn (now (t .entry)) (k .0) ⌝ }
 {
-    start(t, read_u32(t, INDEX + k.0 as usize))
+    start(t, read_u32(t, INDEX + k.0 as usize) as usize)
 }
 
 // The cells of all rows of a kind, up to the rows of the next one.
@@ -66,7 +59,7 @@ fn list_at(t: &[u32], k: Kind, rows: Range) -> Range
         return Range { from: 0, to: 0 };
     }
     let base = first_cell(t, k);
-    let row = read_u32(t, INDEX + k.0 as usize) % 65536 + rows.from % 65536;
+    let row = (read_u32(t, INDEX + k.0 as usize) % 65536 + rows.from % 65536) as usize;
     Range {
         from: less(start(t, row) % 65536 + 2, base),
         to: less(start(t, row + 1), base),

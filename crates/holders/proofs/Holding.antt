@@ -12,7 +12,10 @@ use lib.ListN.{length, getD, take, set, length-set, List·getD-eq-default}
 use lib.Seq.{take-all, getD-set-same, getD-set-other}
 use borrow.Author.Tests.{le-leb, lt-leb, lt-ltb, le-ltb, eq-eqb, ne-eqb}
 use Rattle.laws.specs.First.{first}
-use Rattle.laws.specs.Lists.{any, isIn}
+use Rattle.laws.specs.Lists.{any, isIn, from}
+use Rattle.laws.specs.Fold.{run}
+use Rattle.laws.proofs.Lists.{run-more}
+use Rattle.table.proofs.Loops.{never}
 use Rattle.laws.specs.Digits.{hasIn}
 use Rattle.laws.proofs.Cases.{by-bool, by-eq, by-lt}
 use Rattle.laws.proofs.First.{first-none, first-map}
@@ -248,6 +251,34 @@ fill-end t m n e u f =
 
 -- ---- the lowest of a meet
 
+-- some number below n passes g, asked of one after the other
+abbrev pub someBelow : (ℕ → Bool) → ℕ → Bool
+someBelow g n = run (λ x r. x || g r) false (from 0 n)
+
+or-none : (a b : Bool) → (a || b) ≡ false → (a ≡ false) × (b ≡ false)
+or-none true b e = never (sym e)
+or-none false b e = (refl, e)
+
+module _ (g : ℕ → Bool) where
+  pub some-none : false ≡ someBelow g 0
+  unfolding run from
+  some-none = refl
+
+  more : (n : ℕ) → someBelow g (suc n) ≡ (someBelow g n || g n)
+  more n = let z : 0 + n ≡ n = omega arith in run-more (λ x k. x || g k) false 0 n ∙ ap (λ (k : ℕ). someBelow g n || g k) z
+
+  pub some-next : (r : ℕ) {x y : Bool} → x ≡ someBelow g r → y ≡ g r → (x || y) ≡ someBelow g (r + 1)
+  some-next r p q = rw (p, q, add-one r) (sym (more r))
+
+  pub some-end : (r : ℕ) {x : Bool} → r ≤ regLimit → regLimit ≤ r → x ≡ someBelow g r → x ≡ someBelow g regLimit
+  some-end r l u p = let z : r ≡ regLimit = omega arith in p ∙ ap (someBelow g) z
+
+  none-below : (n : ℕ) → someBelow g n ≡ false → (k : ℕ) → k < n → g k ≡ false
+  none-below zero e k h = absurd (omega arith)
+  none-below (suc n) e k h =
+      let z = or-none (someBelow g n) (g n) (sym (more n) ∙ e) in
+      by-eq k n (λ q. rw q (z .1)) (λ d. none-below n (z .0) k (omega arith))
+
 -- a search of m, where nothing is from the n-th on, is the search of n
 first-wide : {A : Type 0} (at : ℕ → A) (other : A) (f g : ℕ → Bool) (i n m : ℕ) → n ≤ m → ((k : ℕ) → i ≤ k → k < i + n → f k ≡ g k) → ((k : ℕ) → i + n ≤ k → k < i + m → f k ≡ false)
     → first at other f i m ≡ first at other g i n
@@ -287,3 +318,21 @@ lowest-is t rec classes c v {s} {x} {m} p e q z g l f =
     ∙ rw (lt-ltb k (regCount sh) (omega arith), in-class t classes c e g f k (omega arith)) (and-comm (holds (recordIn rec) k v) (allows sh c k && not (isMemory sh k))))
     (λ k i h. both k (omega arith) ∙ rw (le-ltb k (regCount sh) (omega arith)))
     ∙ sym (first-map regFound some none (λ r. allows sh c r && not (isMemory sh r) && holds (recordIn rec) r v) 0 (regCount sh))
+
+module _ (t rec classes : List ℕ) (c v : ℕ) where
+  abbrev test : ℕ → Bool
+  test r = allows (sheetIn t) c r && not (isMemory (sheetIn t) r) && holds (recordIn rec) r v
+
+  abbrev Is : FoundReg → Type 0
+  Is f = Ready t → Long rec → Filled (sheetIn t) classes → f ≡ regFound (lowestHolding (sheetIn t) (allows (sheetIn t) c) v (recordIn rec))
+
+  is-none : ((k : ℕ) → k < regCount (sheetIn t) → test k ≡ false) → FoundReg.Nothing ≡ regFound (lowestHolding (sheetIn t) (allows (sheetIn t) c) v (recordIn rec))
+  unfolding regFound lowestHolding
+  is-none h = ap regFound (sym (first-none some none test 0 (regCount (sheetIn t)) (λ k p q. h k (omega arith))))
+
+  -- no register holds v
+  pub held-nowhere : {b : Bool} → (Long rec → b ≡ someBelow (λ r. holds (recordIn rec) r v) regLimit) → b ≡ false → Is FoundReg.Nothing
+  held-nowhere p e g l f =
+      is-none (λ k h.
+      let z : holds (recordIn rec) k v ≡ false = none-below (λ r. holds (recordIn rec) r v) regLimit (sym (p l) ∙ e) k (omega (arith, in-limits (sheetIn t) (g .limits) .few-regs)) in
+      rw z (and-false (allows (sheetIn t) c k && not (isMemory (sheetIn t) k))))

@@ -4,9 +4,10 @@ ghost use mathlib.Core.Bool.{Bool, false, cond, not, _&&_, _||_};
 ghost use Prim.Native.Nat.{ℕ, _≤_};
 ghost use lib.Dec.{eqb, leb, ltb};
 ghost use lib.ListN.{length};
-ghost use Rattle.laws.specs.Lists.{isIn};
+ghost use Rattle.laws.specs.Fold.{run};
+ghost use Rattle.laws.specs.Lists.{isIn, from};
 ghost use Rattle.bits.specs.Sets.{setOf};
-ghost use Rattle.entity.specs.Limits.{classLimit};
+ghost use Rattle.entity.specs.Limits.{regLimit, classLimit};
 ghost use Rattle.rules.specs.Sheet.{regCount, isMemory};
 ghost use Rattle.rules.specs.Record as Rule;
 ghost use Rattle.rules.specs.Forward.{inMemory, lowestHolding};
@@ -125,6 +126,19 @@ fn holders(t: &[u32], rec: &[u32; LENGTH], v: Value) -> PhysRegSet
     s
 }
 
+// Some register holds v. Asked of all registers: the compiler does it four at a time.
+fn somewhere(rec: &[u32; LENGTH], v: Value) -> bool
+    ensures { λ x. ⌜ (Long (now (rec .entry)) → x ≡ run (λ x r. x || Rule.holds (recordIn (now (rec .entry))) r (v .0)) false (from 0 regLimit)) ⌝ }
+{
+    let mut x = false;
+    let mut r: u32 = 0;
+    while r < PhysReg::LIMIT {
+        x = x | holds(rec, PhysReg(r), v);
+        r += 1;
+    }
+    x
+}
+
 // The lowest non-memory register of a class that holds v.
 pub fn lowest_holding(
     t: &[u32],
@@ -136,6 +150,9 @@ pub fn lowest_holding(
     ensures { λ f. ⌜ (Ready (now (t .entry)) → Long (now (rec .entry)) → Filled (sheetIn (now (t .entry))) (now (classes .entry))
         → f ≡ regFound (lowestHolding (sheetIn (now (t .entry))) (allows (sheetIn (now (t .entry))) (c .0)) (v .0) (recordIn (now (rec .entry))))) ⌝ }
 {
+    if !somewhere(rec, v) {
+        return FoundReg::Nothing;
+    }
     let s = holders(t, rec, v);
     s.meet(class_set(classes, c)).lowest()
 }

@@ -1,4 +1,3 @@
 pub mod Marking
 mod Row
-mod Big
 mod Again

@@ -3,7 +3,8 @@
 --     applied-more      one mark more strikes one row more
 --     applied-length, applied-exact     as many cells; those that are an edit row's still are
 --     marked-read, unmarked-read     a row of the cells, where it is marked and where it is not
---     laid-out          the cells of the struck records are the struck cells
+--     laid-out          the cells of a page's struck records are its struck cells
+--     page-few, page-first, page-next, page-last     the pages one after the other strike the rows
 use mathlib.Core.Path.{_≡_, refl, sym, _∙_, ap}
 use mathlib.Core.Logic.{_⊎_, inl, inr}
 use mathlib.Core.Bool.{cond}
@@ -12,11 +13,10 @@ use Prim.Native.Nat.{ℕ, zero, suc, _+_, _*_, _≤_, _<_}
 use native.Mathlib.Numerals.{add-one}
 use native.Mathlib.Omega.{arith}
 use lib.Dec.{eqb}
-use lib.ListN.{length, getD, set, length-set, List·getD-eq-default}
-use lib.Seq.{getD-set-same, getD-set-other, set-getD, set-comm}
+use lib.ListN.{length, getD, set, take, drop, length-set, length-take, List·getD-eq-default}
+use lib.Seq.{getD-take, getD-drop, getD-set-same, getD-set-other, set-getD, set-comm}
 use borrow.Author.Tests.{ne-eqb}
 use Rattle.laws.proofs.Cases.{by-bool, by-eq, by-lt}
-use Rattle.entity.specs.Limits.{editLimit}
 use Rattle.entity.specs.declared.forms.Edit.the-variants.{Nothing}
 use Rattle.rules.specs.Words.{noneWord}
 use Rattle.rules.specs.Cells.{word, find, words, numberLimit}
@@ -26,7 +26,7 @@ use Rattle.rules.specs.Answer.{editCells}
 use Rattle.table.specs.Edits.{editIn, withEdit}
 use Rattle.table.specs.Written.{EditCells}
 use Rattle.table.proofs.Stored.{edit-none, with-length, with-other, cells-with}
-use Rattle.marks.specs.Marks.{eachRow, appliedAt, applied, noneRecord, noRecord, struckAt, struckBy, recordIn, Lists, withRecord, withRecords}
+use Rattle.marks.specs.Marks.{pageRows, eachRow, appliedAt, applied, appliedFrom, noneRecord, noRecord, struckAt, struckBy, recordIn, Lists, withRecord, withRecords}
 use Rattle.marks.specs.declared.EditRecord.{EditRecord}
 
 pub each-next : {A : Type 0} (f : A → ℕ → ℕ → A) (a : A) (marks : List ℕ) (n : ℕ) → eachRow f a marks (n + 1) ≡ f (eachRow f a marks n) n (getD marks n 0)
@@ -151,11 +151,54 @@ module _ (cells marks : List ℕ) where
     unfolding applied
     marked-read z = by-lt n (length marks) (λ h. gone z (length marks) h) (λ h. absurd (z (List·getD-eq-default marks 0 h)))
 
-  -- the cells of rows that are not come to
-  ahead : (n i : ℕ) → n * 4 ≤ i → getD (to n) i 0 ≡ getD cells i 0
-  unfolding eachRow appliedAt
-  ahead zero i h = refl
-  ahead (suc n) i h = by-bool (eqb (getD marks n 0) 0) (λ e. rw e (ahead n i (omega arith))) (λ e. rw e (cell-other (to n) n i (omega arith) ∙ ahead n i (omega arith)))
+-- ---- the rows of a page
+
+abbrev on : ℕ → List ℕ → ℕ → ℕ → List ℕ
+on first l n m = appliedAt l (first + n) m
+
+-- the cells of rows that are not come to
+ahead : (first : ℕ) (cells marks : List ℕ) (n i : ℕ) → (first + n) * 4 ≤ i → getD (eachRow (on first) cells marks n) i 0 ≡ getD cells i 0
+unfolding eachRow appliedAt
+ahead first cells marks zero i h = refl
+ahead first cells marks (suc n) i h =
+    by-bool (eqb (getD marks n 0) 0) (λ e. rw e (ahead first cells marks n i (omega arith)))
+    (λ e. rw e (cell-other (eachRow (on first) cells marks n) (first + n) i (omega arith) ∙ ahead first cells marks n i (omega arith)))
+
+-- past the marks nothing is struck
+idle : (first : ℕ) (cells marks : List ℕ) (n m : ℕ) → length marks ≤ n → n ≤ m → eachRow (on first) cells marks m ≡ eachRow (on first) cells marks n
+unfolding eachRow appliedAt
+idle first cells marks n zero h l = let e : n ≡ 0 = omega arith in rw e
+idle first cells marks n (suc m) h l =
+    by-eq n (suc m) (λ e. rw e) (λ e. rw (List·getD-eq-default marks 0 {n = m} (omega arith)) (idle first cells marks n m h (omega arith)))
+
+pub page-few : (n : ℕ) (marks : List ℕ) {page : List ℕ} → page ≡ take pageRows (drop n marks) → length page ≤ pageRows
+page-few n marks p = omega (arith, ap length p, length-take pageRows (drop n marks))
+
+module _ (cells marks : List ℕ) where
+  shown : (n : ℕ) → eachRow (on 0) cells marks n ≡ to cells marks n
+  unfolding eachRow
+  shown zero = refl
+  shown (suc n) = let e : 0 + n ≡ n = omega arith in rw (shown n, e)
+
+  -- a page after the n rows before it
+  turned : (n k : ℕ) → k ≤ pageRows → eachRow (on n) (to cells marks n) (take pageRows (drop n marks)) k ≡ to cells marks (n + k)
+  unfolding eachRow
+  turned n zero l = let e : n + 0 ≡ n = omega arith in rw e
+  turned n (suc k) l =
+      let e : n + suc k ≡ suc (n + k) = omega arith in
+      rw (e, eachRow, turned n k (omega arith)) (ap (appliedAt (to cells marks (n + k)) (n + k)) (getD-take pageRows (drop n marks) k 0 (omega arith) ∙ getD-drop n marks k 0))
+
+  pub page-first : cells ≡ to cells marks 0
+  page-first = each-first appliedAt cells marks
+
+  pub page-next : (n : ℕ) {l l′ page : List ℕ} → l ≡ to cells marks n → page ≡ take pageRows (drop n marks) → l′ ≡ appliedFrom n l page → l′ ≡ to cells marks (n + pageRows)
+  unfolding appliedFrom
+  page-next n {l} {l′} {page} q p e =
+      e ∙ sym (idle n l page (length page) pageRows (omega arith) (page-few n marks p)) ∙ rw (q, p) (turned n pageRows (omega arith))
+
+  pub page-last : (n : ℕ) {l : List ℕ} → l ≡ to cells marks n → length marks ≤ n → l ≡ applied cells marks
+  unfolding applied
+  page-last n q h = q ∙ sym (shown n) ∙ idle 0 cells marks (length marks) n (omega arith) h ∙ shown (length marks)
 
 -- ---- one mark more
 
@@ -207,23 +250,23 @@ module _ (list : List EditRecord) (marks : List ℕ) where
 
 -- ---- the cells as a list, and the list as cells
 
-pub lists-more : (cells : List ℕ) (list : List EditRecord) {r : EditRecord} (n : ℕ) → n < 1024 → Lists cells list n → r ≡ recordIn cells n → Lists cells (set list n r) (n + 1)
-lists-more cells list {r} n h g e =
+pub lists-more : (cells : List ℕ) (list : List EditRecord) {r : EditRecord} (first n : ℕ) → n < pageRows → Lists cells list first n → r ≡ recordIn cells (first + n) → Lists cells (set list n r) first (n + 1)
+lists-more cells list {r} first n h g e =
     record {
       long = length-set list n r ∙ g .long;
       rows = λ i l. by-eq i n (λ q. rw q (getD-set-same list n r noRecord (omega (arith, g .long)) ∙ e)) (λ q. getD-set-other list n i r noRecord q ∙ g .rows i (omega arith));
     }
 
-pub laid-first : (cells : List ℕ) (list : List EditRecord) → cells ≡ withRecords cells list 0
+pub laid-first : (cells : List ℕ) (list : List EditRecord) (first : ℕ) → cells ≡ withRecords cells list first 0
 unfolding withRecords
-laid-first cells list = refl
+laid-first cells list first = refl
 
-pub laid-more : (cells l : List ℕ) (list : List EditRecord) (n : ℕ) {r : EditRecord} {l′ : List ℕ} → l ≡ withRecords cells list n → r ≡ getD list n noRecord → l′ ≡ withRecord l n r → l′ ≡ withRecords cells list (n + 1)
+pub laid-more : (cells l : List ℕ) (list : List EditRecord) (first n : ℕ) {r : EditRecord} {l′ : List ℕ} → l ≡ withRecords cells list first n → r ≡ getD list n noRecord → l′ ≡ withRecord l (first + n) r → l′ ≡ withRecords cells list first (n + 1)
 unfolding withRecords
-laid-more cells l list n q e f = f ∙ rw (q, e, add-one n)
+laid-more cells l list first n q e f = f ∙ rw (q, e, add-one n)
 
-pub laid-last : (cells : List ℕ) {l : List ℕ} (list : List EditRecord) (n m : ℕ) → l ≡ withRecords cells list n → n ≤ m → m ≤ n → l ≡ withRecords cells list m
-laid-last cells list n m q a b = let e : n ≡ m = omega arith in rw (← e) q
+pub laid-last : (cells : List ℕ) {l : List ℕ} (list : List EditRecord) (first n m : ℕ) → l ≡ withRecords cells list first n → n ≤ m → m ≤ n → l ≡ withRecords cells list first m
+laid-last cells list first n m q a b = let e : n ≡ m = omega arith in rw (← e) q
 
 -- a row replaced by what it was
 same-record : (l cells : List ℕ) (n : ℕ) → ((i : ℕ) → n * 4 ≤ i → getD l i 0 ≡ getD cells i 0) → withRecord l n (recordIn cells n) ≡ l
@@ -234,14 +277,14 @@ same-record l cells n u =
     ∙ ap (λ (x : List ℕ). set (set x (a + 2) (getD cells (a + 2) 0)) (a + 3) (getD cells (a + 3) 0)) (same (a + 1) (omega arith))
     ∙ ap (λ (x : List ℕ). set x (a + 3) (getD cells (a + 3) 0)) (same (a + 2) (omega arith)) ∙ same (a + 3) (omega arith)
 
-module _ (cells marks : List ℕ) (list : List EditRecord) (few : length marks ≤ editLimit) (are : Lists cells list (length marks)) where
-  laid-to : (n : ℕ) → n ≤ length marks → withRecords cells (struckBy list marks) n ≡ to cells marks n
+module _ (first : ℕ) (cells marks : List ℕ) (list : List EditRecord) (few : length marks ≤ pageRows) (are : Lists cells list first (length marks)) where
+  laid-to : (n : ℕ) → n ≤ length marks → withRecords cells (struckBy list marks) first n ≡ eachRow (on first) cells marks n
   unfolding withRecords struckBy eachRow appliedAt withEdit editCells word find words
   laid-to zero h = refl
   laid-to (suc n) h =
       rw (laid-to n (omega arith), record-at list marks n (length marks) (omega arith) (omega (arith, few, are .long)))
-      (by-bool (eqb (getD marks n 0) 0) (λ e. rw (e, are .rows n (omega arith)) (same-record (to cells marks n) cells n (ahead cells marks n))) (λ e. rw e))
+      (by-bool (eqb (getD marks n 0) 0) (λ e. rw (e, are .rows n (omega arith)) (same-record (eachRow (on first) cells marks n) cells (first + n) (ahead first cells marks n))) (λ e. rw e))
 
-  pub laid-out : {l : List ℕ} {struck : List EditRecord} → struck ≡ struckBy list marks → l ≡ withRecords cells struck (length marks) → l ≡ applied cells marks
-  unfolding applied
+  pub laid-out : {l : List ℕ} {struck : List EditRecord} → struck ≡ struckBy list marks → l ≡ withRecords cells struck first (length marks) → l ≡ appliedFrom first cells marks
+  unfolding appliedFrom
   laid-out e q = q ∙ rw e (laid-to (length marks) (omega arith))

@@ -5,11 +5,14 @@ use mathlib.Core.List.{List}
 use Prim.Native.Nat.{ℕ, zero, suc, _+_, _*_, _<_}
 use lib.Dec.{eqb}
 use lib.ListN.{length, getD, set}
-use Rattle.entity.specs.Limits.{editLimit}
 use Rattle.entity.specs.declared.forms.Edit.the-variants.{Nothing}
 use Rattle.rules.specs.{Words.noneWord, Cells.numberLimit}
 use Rattle.table.specs.Edits.{withEdit}
 use Rattle.marks.specs.declared.EditRecord.{EditRecord}
+
+-- the records of a list
+abbrev pub pageRows : ℕ
+pageRows = 64
 
 -- f at each of the first n rows, with its mark
 unfoldable pub eachRow : {A : Type 0} → (A → ℕ → ℕ → A) → A → List ℕ → ℕ → A
@@ -22,6 +25,10 @@ appliedAt cells n m = cond (eqb m 0) cells (withEdit cells n Nothing)
 
 unfoldable pub applied : List ℕ → List ℕ → List ℕ
 applied cells marks = eachRow appliedAt cells marks (length marks)
+
+-- rows from `first` on, each by its mark
+unfoldable pub appliedFrom : ℕ → List ℕ → List ℕ → List ℕ
+appliedFrom first cells marks = eachRow (λ l n m. appliedAt l (first + n) m) cells marks (length marks)
 
 -- a removed edit: kind `none`, three dashes
 abbrev pub noneRecord : EditRecord
@@ -45,12 +52,12 @@ recordIn cells n = record { kind = getD cells (n * 4) 0; to = getD cells (n * 4 
 abbrev pub withRecord : List ℕ → ℕ → EditRecord → List ℕ
 withRecord cells n r = set (set (set (set cells (n * 4) (r .kind)) (n * 4 + 1) (r .to)) (n * 4 + 2) (r .from)) (n * 4 + 3) (r .value)
 
--- the list has the first n rows of the cells
-pub record Lists (cells : List ℕ) (list : List EditRecord) (n : ℕ) : Type 0 where
-  pub long : length list ≡ editLimit
-  pub rows : (i : ℕ) → i < n → getD list i noRecord ≡ recordIn cells i
+-- the list has n rows of the cells, from row `first` on
+pub record Lists (cells : List ℕ) (list : List EditRecord) (first n : ℕ) : Type 0 where
+  pub long : length list ≡ pageRows
+  pub rows : (i : ℕ) → i < n → getD list i noRecord ≡ recordIn cells (first + i)
 
--- the first n rows replaced by those of a list
-unfoldable pub withRecords : List ℕ → List EditRecord → ℕ → List ℕ
-withRecords cells list zero = cells
-withRecords cells list (suc n) = withRecord (withRecords cells list n) n (getD list n noRecord)
+-- n rows, from row `first` on, replaced by those of a list
+unfoldable pub withRecords : List ℕ → List EditRecord → ℕ → ℕ → List ℕ
+withRecords cells list first zero = cells
+withRecords cells list first (suc n) = withRecord (withRecords cells list first n) (first + n) (getD list n noRecord)

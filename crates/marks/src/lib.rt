@@ -1,10 +1,10 @@
 // The marked edits are struck in a lent list of edit records, the form that document 01 asks of the sweep. Which edits are marked is the sweep's matter;
-// here the cells of the edits become a list, the list is lent to the function that strikes what is marked, and its records go back to the cells.
+// here the cells of the edits become lists of up to 64 records, a list is lent to the function that strikes what is marked, and its records go back to the cells.
 ghost use mathlib.Core.Path.{_≡_};
 ghost use Prim.Native.Nat.{_≤_};
-ghost use lib.ListN.{length, take};
+ghost use lib.ListN.{length, take, drop};
 ghost use Rattle.entity.specs.Limits.{editLimit};
-ghost use Rattle.marks.specs.Marks.{noneRecord, struckAt, struckBy, recordIn, Lists, withRecord, withRecords, applied};
+ghost use Rattle.marks.specs.Marks.{pageRows, noneRecord, struckAt, struckBy, recordIn, Lists, withRecord, withRecords, applied, appliedFrom};
 use bits::tables::read_u32;
 use bits::tables::store_u32;
 use entity::cells::Word;
@@ -13,6 +13,9 @@ use table::edits::WIDTH;
 
 // The most edits that there are.
 pub const ROWS: usize = EditRow::LIMIT as usize;
+
+// The records of a list. It is filled, lent and copied whole, so it is short.
+const PAGE: usize = 64;
 
 // The four numbers of an edit.
 pub struct EditRecord {
@@ -56,7 +59,7 @@ fn mark(list: &mut [EditRecord], marks: &[u8])
 }
 
 // The owner of the list lends it, and has it again after the marking.
-fn marked(list: [EditRecord; ROWS], marks: &[u8]) -> [EditRecord; ROWS]
+fn marked(list: [EditRecord; PAGE], marks: &[u8]) -> [EditRecord; PAGE]
     ensures { λ r. ⌜ r ≡ struckBy list (now (marks .entry)) ⌝ }
 {
     let mut own = list;
@@ -86,41 +89,66 @@ fn store_record(edits: &mut [u32], n: EditRow, r: EditRecord)
     store_u32(edits, at + 3, r.value);
 }
 
-// The first rows of the cells as a list of records.
-fn listed(edits: &[u32], rows: usize) -> [EditRecord; ROWS]
-    requires { ⌜ rows ≤ editLimit ⌝ }
-    ensures { λ l. ⌜ Lists (now (edits .entry)) l rows ⌝ }
+// Rows of the cells as a list of records, from row `first` on.
+fn listed(edits: &[u32], first: usize, rows: usize) -> [EditRecord; PAGE]
+    requires { ⌜ (first ≤ editLimit) × (rows ≤ pageRows) ⌝ }
+    ensures { λ l. ⌜ Lists (now (edits .entry)) l first rows ⌝ }
 {
-    let mut list = [none(); ROWS];
+    let mut list = [none(); PAGE];
     let mut n: usize = 0;
     while n < rows {
-        list[n] = read_record(edits, EditRow(n as u32));
+        list[n] = read_record(edits, EditRow((first + n) as u32));
         n += 1;
     }
     list
 }
 
-// The records of a list in the first rows of the cells.
-fn lay_out(edits: &mut [u32], list: [EditRecord; ROWS], rows: usize)
-    requires { ⌜ rows ≤ editLimit ⌝ }
-    ensures { λ _. ⌜ now (edits .exit) ≡ withRecords (now (edits .entry)) list rows ⌝ }
+// The records of a list in the rows of the cells, from row `first` on.
+fn lay_out(edits: &mut [u32], list: [EditRecord; PAGE], first: usize, rows: usize)
+    requires { ⌜ (first ≤ editLimit) × (rows ≤ pageRows) ⌝ }
+    ensures { λ _. ⌜ now (edits .exit) ≡ withRecords (now (edits .entry)) list first rows ⌝ }
 {
     let mut n: usize = 0;
     while n < rows {
-        store_record(edits, EditRow(n as u32), list[n]);
+        store_record(edits, EditRow((first + n) as u32), list[n]);
         n += 1;
     }
 }
 
-// The cells, in which the marked rows are struck.
+// The cells, in which the marked rows of a page are struck, which begins at row `first`.
+fn mark_page(edits: &mut [u32], first: usize, marks: &[u8])
+    requires { ⌜ (first ≤ editLimit) × (length (now marks) ≤ pageRows) ⌝ }
+    ensures { λ _. ⌜ now (edits .exit) ≡ appliedFrom first (now (edits .entry)) (now (marks .entry)) ⌝ }
+{
+    let rows = marks.len();
+    let list = listed(edits, first, rows);
+    let struck = marked(list, marks);
+    lay_out(edits, struck, first, rows);
+}
+
+// The marks of a page.
+fn page(marks: &[u8], first: usize) -> &[u8]
+    requires { ⌜ first ≤ length (now marks) ⌝ }
+    ensures { λ r. ⌜ now r ≡ take pageRows (drop first (now (marks .entry))) ⌝ }
+{
+    if marks.len() - first <= PAGE {
+        &marks[first..]
+    } else {
+        let to = first + PAGE;
+        &marks[first..to]
+    }
+}
+
+// The cells, in which the marked rows are struck, page by page.
 fn mark_rows(edits: &mut [u32], marks: &[u8])
     requires { ⌜ length (now marks) ≤ editLimit ⌝ }
     ensures { λ _. ⌜ now (edits .exit) ≡ applied (now (edits .entry)) (now (marks .entry)) ⌝ }
 {
-    let rows = marks.len();
-    let list = listed(edits, rows);
-    let struck = marked(list, marks);
-    lay_out(edits, struck, rows);
+    let mut n: usize = 0;
+    while n < marks.len() {
+        mark_page(edits, n, page(marks, n));
+        n += PAGE;
+    }
 }
 
 // The marks, of which there are no more than edits.

@@ -18,11 +18,9 @@ use Rattle.rules.specs.Record.{Record, Known, nothing}
 use Rattle.rules.specs.Forward.{Walk, Handed, withRec, takeIn, enter, begun, optimiseBlock, prepareBlock, handOn, forwardBlock, forwardStart, optimiseAll, visits, mostVisits, globalStart, globalWalk, optimise}
 use Rattle.table.specs.Sheet.{sheetIn}
 use Rattle.table.specs.Index.{Ready}
-use Rattle.table.specs.Rows.{countIn}
 use Rattle.rules.proofs.Refusals.{in-limits}
-use Rattle.table.proofs.Sheets.{blocks-are, long-of}
 use Rattle.record.specs.Flat.{recordIn, Long, Becomes}
-use Rattle.states.specs.States.{Roomy, stateIn, statesIn, Lies}
+use Rattle.states.specs.States.{stateIn, statesIn, Lies}
 use Rattle.states.proofs.Cells.{states-at}
 use Rattle.moves.specs.Walks.{Written, Walked, entered, optimised, prepared, allMost, blockMost, walkMost}
 use Rattle.move_optimizer.specs.Levels.{Stands, Rests}
@@ -90,24 +88,24 @@ module _ {t rec edits places counts : List ℕ} where
 
 pub global-end : {t rec₁ states edits₁ places₁ counts₁ rec edits places counts : List ℕ} {n b to : ℕ} (w : Walk) → Ready t → to ≡ blockCount (sheetIn t) → to ≤ b
     → Rests t rec₁ states edits₁ places₁ counts₁ (n + allMost) (visits (sheetIn t) (mostVisits (sheetIn t)) (w, globalStart (sheetIn t)))
-    → ((h : Handed) → Roomy states → statesIn states (blockCount (sheetIn t)) ≡ h .states → (m : ℕ) (w : Walk) → Walked t rec₁ edits₁ places₁ counts₁ (m + blockMost * (to - 0)) w
+    → ((h : Handed) → statesIn states (blockCount (sheetIn t)) ≡ h .states → (m : ℕ) (w : Walk) → Walked t rec₁ edits₁ places₁ counts₁ (m + blockMost * (to - 0)) w
     → Passing (Walked t rec edits places counts) (blockwise (sheetIn t) (begun (sheetIn t) h)) blockMost m b to (run (blockwise (sheetIn t) (begun (sheetIn t) h)) w (from 0 (to - 0))))
     → Walked t rec edits places counts n (optimise (sheetIn t) Level.Global w)
 unfolding optimise globalWalk
 global-end {t} {n = n} w g d h y x =
     let wh : Walk × Handed = visits (sheetIn t) (mostVisits (sheetIn t)) (w, globalStart (sheetIn t)) in
-    blocks-end (begun (sheetIn t) (wh .1)) (wh .0) d h (x (wh .1) (y .room) (y .are) n (wh .0) (blocks-start g d n (wh .0) (y .walked)))
+    blocks-end (begun (sheetIn t) (wh .1)) (wh .0) d h (x (wh .1) (y .are) n (wh .0) (blocks-start g d n (wh .0) (y .walked)))
 
 -- ---- and each hands on
 
 module _ {t rec states edits places counts : List ℕ} {w : NumberSet} where
   module _ {rec′ states′ edits′ places′ counts′ : List ℕ} {w′ : NumberSet} {b to : ℕ} (u : b < to) (d : to ≡ blockCount (sheetIn t))
-      (q : Roomy states → Turns t rec edits places counts rec′ edits′ places′ counts′ (optimiseBlock (sheetIn t) b (Option·getD (stateIn states b) nothing)))
+      (q : Turns t rec edits places counts rec′ edits′ places′ counts′ (optimiseBlock (sheetIn t) b (Option·getD (stateIn states b) nothing)))
       (o : Long rec′ → (h : Handed) → Lies (blockCount (sheetIn t)) states w h → Lies (blockCount (sheetIn t)) states′ w′ (handOn (sheetIn t) b (recordIn rec′) h)) where
     forward-step : (m : ℕ) (s : Walk × Handed) → Stands t rec states edits places counts w (m + blockMost) s → Stands t rec′ states′ edits′ places′ counts′ w′ m (forwardBlock (sheetIn t) s b)
     unfolding forwardBlock
     forward-step m s y =
-        let z = block-begun b states (s .1) (y .lies .are) u d (q (y .lies .room)) m (s .0) (y .walked) in
+        let z = block-begun b states (s .1) (y .lies .are) u d q m (s .0) (y .walked) in
         record { walked = z; lies = rw (z .is-rec) (o (z .long) (s .1) (y .lies)) }
 
     pub forward-next : {n : ℕ} {e : Walk × Handed} → Passing (Stands t rec states edits places counts w) (forwardBlock (sheetIn t)) blockMost n b to e

@@ -8,14 +8,13 @@ use Prim.Native.Nat.{ℕ, _+_, _-_, _≤_, _<_}
 use native.Mathlib.Omega.{arith}
 use lib.Dec.{eqb}
 use lib.ListN.{length, getD}
-use lib.Seq.{getD-set-same, getD-set-other, set-out}
 use borrow.Author.Tests.{eq-eqb, ne-eqb}
 use Rattle.laws.proofs.Lists.{is-keep}
 use Rattle.laws.proofs.First.{first-found}
 use Rattle.rules.proofs.Refusals.{in-limits}
 use Rattle.laws.specs.First.{first}
 use Rattle.laws.specs.Lists.{keep, isIn}
-use Rattle.laws.proofs.Cases.{by-lt, by-eq, by-option}
+use Rattle.laws.proofs.Cases.{by-option}
 use Rattle.laws.proofs.Words.{has-wordsOf}
 use Rattle.bits.specs.Sets.{has, setOf, setLimit}
 use Rattle.bits.specs.declared.sets.NumberSet.{NumberSet}
@@ -31,7 +30,7 @@ use Rattle.table.specs.Edits.{editsIn}
 use Rattle.table.proofs.Counted.{count-more}
 use Rattle.record.specs.Flat.{recordIn, Long, Becomes}
 use Rattle.record.proofs.Changes.{long-after}
-use Rattle.states.specs.States.{Roomy, stateIn, Lies}
+use Rattle.states.specs.States.{stateIn, Lies}
 use Rattle.visiting.specs.Measure.{next}
 use Rattle.visiting.proofs.Lists.{first-wide}
 use Rattle.visiting.proofs.Loops.{bounded-again, bounded-stop, bounded-out}
@@ -86,7 +85,7 @@ module _ {t rec states edits places counts : List ℕ} {w : NumberSet} {n : ℕ}
       (record { walked = walked-fewer n (omega arith) (st .walked); lies = removed-lies (wh .1) b r (st .lies) })
 
   pub visit-on : {rec₁ rec′ states′ counts′ l : List ℕ} {w₁ w′ : NumberSet} → b < blockCount (sheetIn t) → l ≡ succsOf (sheetIn t) b → (length l ≡ 0 → ⊥) → w₁ ≡ setOf (λ k. has w k && not (eqb k b))
-      → (Long rec → Roomy states → Becomes rec rec₁ (takeIn (sheetIn t) (Option·getD (stateIn states b) nothing) (recordIn rec)))
+      → (Long rec → Becomes rec rec₁ (takeIn (sheetIn t) (Option·getD (stateIn states b) nothing) (recordIn rec)))
       → (Long rec₁ → Becomes rec₁ rec′ (prepared (sheetIn t) b (editsIn edits (length (sheetIn t .edits))) (recordIn rec₁)))
       → (getD counts 0 0 < 4294967295 → counts′ ≡ count 0 counts)
       → (Long rec′ → (h : Handed) → Lies (blockCount (sheetIn t)) states w₁ h → Lies (blockCount (sheetIn t)) states′ w′ (handOn (sheetIn t) b (recordIn rec′) h))
@@ -97,7 +96,7 @@ module _ {t rec states edits places counts : List ℕ} {w : NumberSet} {n : ℕ}
       let c = x .cells in
       let h = without b (wh .1) in
       let k = begun (sheetIn t) h b in
-      let f = p (x .long) (st .lies .room) in
+      let f = p (x .long) in
       let g = o (long-after f (x .long)) in
       let z = v (omega (arith, c .few 0)) in
       let s : recordIn _ ≡ prepareBlock (sheetIn t) b (wh .0 .edits) k (wh .0 .rec) =
@@ -151,7 +150,7 @@ module _ {t rec states edits places counts : List ℕ} {w : NumberSet} {n : ℕ}
   rested : x .at ≡ e → Rests t rec states edits places counts n e
   rested q =
       let s = x .stands in
-      rw (← q) (record { walked = walked-fewer n (omega arith) (s .walked); room = s .lies .room; are = s .lies .are })
+      rw (← q) (record { walked = walked-fewer n (omega arith) (s .walked); are = s .lies .are })
 
   pub walking-stop : FoundBlock.Nothing ≡ foundIn w → Rests t rec states edits places counts n e
   walking-stop l = rested (bounded-stop (sheetIn t) most k (x .at) e (x .rest) (lowest-none (sheetIn t) few states w (x .at) (x .stands .lies) l))

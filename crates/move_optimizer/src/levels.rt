@@ -2,7 +2,7 @@
 ghost use mathlib.Core.Path.{_≡_};
 ghost use mathlib.Core.List.{List};
 ghost use mathlib.Core.Option.{Option·getD};
-ghost use Prim.Native.Nat.{ℕ, _+_, _<_};
+ghost use Prim.Native.Nat.{ℕ, _+_, _<_, _≤_};
 ghost use lib.ListN.{length};
 ghost use Rattle.rules.specs.Sheet.{blockCount};
 ghost use Rattle.rules.specs.Record.{nothing, fresh};
@@ -11,10 +11,10 @@ ghost use Rattle.table.specs.Sheet.{sheetIn};
 ghost use Rattle.table.specs.Index.{Ready};
 ghost use Rattle.table.specs.Edits.{editsIn};
 ghost use Rattle.record.specs.Flat.{recordIn, Long, Becomes};
-ghost use Rattle.states.specs.States.{Roomy, stateIn, Unset};
+ghost use Rattle.states.specs.States.{stateIn, Unset};
 ghost use Rattle.holders.specs.Holders.{Filled};
 ghost use Rattle.moves.specs.Walks.{Ordered, Written, Walked, entered, optimised, prepared, allMost, blockMost, visitMost, walkMost};
-ghost use Rattle.move_optimizer.specs.Levels.{Stands, Rests};
+ghost use Rattle.move_optimizer.specs.Levels.{Stands, Rests, handedBlocks, Optimises};
 use entity::forms::Level;
 use entity::numbers::Block;
 use entity::numbers::Inst;
@@ -31,8 +31,8 @@ use moves::prepare_edits;
 use record::flat::LENGTH;
 use record::flat::NONE;
 use record::steps::define;
+use states::handed::FLAGS;
 use states::handed::KNOWN;
-use states::handed::SIZE;
 use states::handed::begin_empty;
 use states::handed::hand_on;
 use states::handed::take_in;
@@ -91,13 +91,13 @@ fn optimise_handed(
     t: &[u32],
     rec: &mut [u32; LENGTH],
     classes: &[u64; WORDS],
-    states: &[u32; SIZE],
+    states: &[u32],
     edits: &mut [u32],
     places: &mut [u32],
     counts: &mut [u32],
     b: Block,
 )
-    ensures { λ _. ⌜ (Ordered (now (t .entry)) → Filled (sheetIn (now (t .entry))) (now (classes .entry)) → Roomy (now (states .entry)) → (n : ℕ) (w : Walk)
+    ensures { λ _. ⌜ (Ordered (now (t .entry)) → Filled (sheetIn (now (t .entry))) (now (classes .entry)) → (n : ℕ) (w : Walk)
         → Walked (now (t .entry)) (now (rec .entry)) (now (edits .entry)) (now (places .entry)) (now (counts .entry)) (n + blockMost) w
         → Walked (now (t .entry)) (now (rec .exit)) (now (edits .exit)) (now (places .exit)) (now (counts .exit)) n (optimiseBlock (sheetIn (now (t .entry))) (b .0) (Option·getD (stateIn (now (states .entry)) (b .0)) nothing) w)) ⌝ }
 {
@@ -148,12 +148,12 @@ fn forward(
     t: &[u32],
     rec: &mut [u32; LENGTH],
     classes: &[u64; WORDS],
-    states: &mut [u32; SIZE],
+    states: &mut [u32],
     edits: &mut [u32],
     places: &mut [u32],
     counts: &mut [u32],
 )
-    ensures { λ _. ⌜ (Ordered (now (t .entry)) → Filled (sheetIn (now (t .entry))) (now (classes .entry)) → Unset (now (states .entry)) → (n : ℕ) (w : Walk)
+    ensures { λ _. ⌜ (Ordered (now (t .entry)) → Filled (sheetIn (now (t .entry))) (now (classes .entry)) → Unset (blockCount (sheetIn (now (t .entry)))) (now (states .entry)) → (n : ℕ) (w : Walk)
         → Walked (now (t .entry)) (now (rec .entry)) (now (edits .entry)) (now (places .entry)) (now (counts .entry)) (n + allMost) w
         → Walked (now (t .entry)) (now (rec .exit)) (now (edits .exit)) (now (places .exit)) (now (counts .exit)) n (optimise (sheetIn (now (t .entry))) Level.Forward w)) ⌝ }
 {
@@ -172,7 +172,7 @@ fn forward(
 fn visit(
     t: &[u32],
     rec: &mut [u32; LENGTH],
-    states: &mut [u32; SIZE],
+    states: &mut [u32],
     edits: &[u32],
     counts: &mut [u32],
     waiting: BlockSet,
@@ -194,14 +194,8 @@ fn visit(
 
 // The smallest waiting block is visited, until none waits. A block waits at first if it is an entry, once when its state is first set, and
 // again only when that lost one of its pairs.
-fn visits(
-    t: &[u32],
-    rec: &mut [u32; LENGTH],
-    states: &mut [u32; SIZE],
-    edits: &[u32],
-    counts: &mut [u32],
-)
-    ensures { λ _. ⌜ (Ordered (now (t .entry)) → Unset (now (states .entry)) → (places : List ℕ) (n : ℕ) (w : Walk)
+fn visits(t: &[u32], rec: &mut [u32; LENGTH], states: &mut [u32], edits: &[u32], counts: &mut [u32])
+    ensures { λ _. ⌜ (Ordered (now (t .entry)) → Unset (blockCount (sheetIn (now (t .entry)))) (now (states .entry)) → (places : List ℕ) (n : ℕ) (w : Walk)
         → Walked (now (t .entry)) (now (rec .entry)) (now (edits .entry)) places (now (counts .entry)) (n + visitMost) w
         → Rests (now (t .entry)) (now (rec .exit)) (now (states .exit)) (now (edits .entry)) places (now (counts .exit)) n (visits (sheetIn (now (t .entry))) (mostVisits (sheetIn (now (t .entry)))) (w, globalStart (sheetIn (now (t .entry)))))) ⌝ }
 {
@@ -222,12 +216,12 @@ fn global(
     t: &[u32],
     rec: &mut [u32; LENGTH],
     classes: &[u64; WORDS],
-    states: &mut [u32; SIZE],
+    states: &mut [u32],
     edits: &mut [u32],
     places: &mut [u32],
     counts: &mut [u32],
 )
-    ensures { λ _. ⌜ (Ordered (now (t .entry)) → Filled (sheetIn (now (t .entry))) (now (classes .entry)) → Unset (now (states .entry)) → (n : ℕ) (w : Walk)
+    ensures { λ _. ⌜ (Ordered (now (t .entry)) → Filled (sheetIn (now (t .entry))) (now (classes .entry)) → Unset (blockCount (sheetIn (now (t .entry)))) (now (states .entry)) → (n : ℕ) (w : Walk)
         → Walked (now (t .entry)) (now (rec .entry)) (now (edits .entry)) (now (places .entry)) (now (counts .entry)) (n + allMost + visitMost) w
         → Walked (now (t .entry)) (now (rec .exit)) (now (edits .exit)) (now (places .exit)) (now (counts .exit)) n (optimise (sheetIn (now (t .entry))) Level.Global w)) ⌝ }
 {
@@ -240,10 +234,17 @@ fn global(
     }
 }
 
-// The edits, places and counts after the forward rules.
-pub fn optimise(t: &[u32], level: Level, edits: &mut [u32], places: &mut [u32], counts: &mut [u32])
-    ensures { λ _. ⌜ (Ordered (now (t .entry)) → (n : ℕ) (w : Walk) → w .rec ≡ fresh → Written (now (t .entry)) (now (edits .entry)) (now (places .entry)) (now (counts .entry)) (n + walkMost) w
-        → Written (now (t .entry)) (now (edits .exit)) (now (places .exit)) (now (counts .exit)) n (optimise (sheetIn (now (t .entry))) level w)) ⌝ }
+// A level's walk, with a table for the states lent to it.
+fn walk(
+    t: &[u32],
+    level: Level,
+    states: &mut [u32],
+    edits: &mut [u32],
+    places: &mut [u32],
+    counts: &mut [u32],
+)
+    ensures { λ _. ⌜ (Ordered (now (t .entry)) → Unset (handedBlocks (sheetIn (now (t .entry))) level) (now (states .entry))
+        → Optimises (now (t .entry)) level (now (edits .entry)) (now (places .entry)) (now (counts .entry)) (now (edits .exit)) (now (places .exit)) (now (counts .exit))) ⌝ }
 {
     let mut classes = [0u64; WORDS];
     let mut rec = [NONE; LENGTH];
@@ -251,13 +252,80 @@ pub fn optimise(t: &[u32], level: Level, edits: &mut [u32], places: &mut [u32], 
     match level {
         Level::Off => {}
         Level::Local => local(t, &mut rec, &classes, edits, places, counts),
-        Level::Forward => {
-            let mut states = [0u32; SIZE];
-            forward(t, &mut rec, &classes, &mut states, edits, places, counts)
-        }
-        Level::Global => {
-            let mut states = [0u32; SIZE];
-            global(t, &mut rec, &classes, &mut states, edits, places, counts)
-        }
+        Level::Forward => forward(t, &mut rec, &classes, states, edits, places, counts),
+        Level::Global => global(t, &mut rec, &classes, states, edits, places, counts),
+    }
+}
+
+// The walk without states, and with states for few, some and all blocks.
+fn no_blocks(t: &[u32], level: Level, edits: &mut [u32], places: &mut [u32], counts: &mut [u32])
+    ensures { λ _. ⌜ (Ordered (now (t .entry)) → handedBlocks (sheetIn (now (t .entry))) level ≤ 0
+        → Optimises (now (t .entry)) level (now (edits .entry)) (now (places .entry)) (now (counts .entry)) (now (edits .exit)) (now (places .exit)) (now (counts .exit))) ⌝ }
+{
+    let mut states = [0u32; FLAGS];
+    walk(t, level, &mut states, edits, places, counts)
+}
+
+fn few_blocks(t: &[u32], level: Level, edits: &mut [u32], places: &mut [u32], counts: &mut [u32])
+    ensures { λ _. ⌜ (Ordered (now (t .entry)) → handedBlocks (sheetIn (now (t .entry))) level ≤ 4
+        → Optimises (now (t .entry)) level (now (edits .entry)) (now (places .entry)) (now (counts .entry)) (now (edits .exit)) (now (places .exit)) (now (counts .exit))) ⌝ }
+{
+    let mut states = [0u32; FLAGS + 4 * KNOWN];
+    walk(t, level, &mut states, edits, places, counts)
+}
+
+fn some_blocks(t: &[u32], level: Level, edits: &mut [u32], places: &mut [u32], counts: &mut [u32])
+    ensures { λ _. ⌜ (Ordered (now (t .entry)) → handedBlocks (sheetIn (now (t .entry))) level ≤ 16
+        → Optimises (now (t .entry)) level (now (edits .entry)) (now (places .entry)) (now (counts .entry)) (now (edits .exit)) (now (places .exit)) (now (counts .exit))) ⌝ }
+{
+    let mut states = [0u32; FLAGS + 16 * KNOWN];
+    walk(t, level, &mut states, edits, places, counts)
+}
+
+fn all_blocks(t: &[u32], level: Level, edits: &mut [u32], places: &mut [u32], counts: &mut [u32])
+    ensures { λ _. ⌜ (Ordered (now (t .entry))
+        → Optimises (now (t .entry)) level (now (edits .entry)) (now (places .entry)) (now (counts .entry)) (now (edits .exit)) (now (places .exit)) (now (counts .exit))) ⌝ }
+{
+    let mut states = [0u32; FLAGS + Block::LIMIT as usize * KNOWN];
+    walk(t, level, &mut states, edits, places, counts)
+}
+
+// How many blocks have a state at a level.
+fn handed_blocks(t: &[u32], level: Level) -> u32
+    ensures { λ r. ⌜ r ≡ handedBlocks (sheetIn (now (t .entry))) level ⌝ }
+{
+    match level {
+        Level::Off => 0,
+        Level::Local => 0,
+        Level::Forward => count(t, Kind::BLOCK),
+        Level::Global => count(t, Kind::BLOCK),
+    }
+}
+
+// The walk with the smallest table that has room: its clearing is a good part of a small sheet's time.
+fn by_blocks(t: &[u32], level: Level, edits: &mut [u32], places: &mut [u32], counts: &mut [u32])
+    ensures { λ _. ⌜ (Ordered (now (t .entry))
+        → Optimises (now (t .entry)) level (now (edits .entry)) (now (places .entry)) (now (counts .entry)) (now (edits .exit)) (now (places .exit)) (now (counts .exit))) ⌝ }
+{
+    let n = handed_blocks(t, level);
+    if n == 0 {
+        no_blocks(t, level, edits, places, counts)
+    } else if n <= 4 {
+        few_blocks(t, level, edits, places, counts)
+    } else if n <= 16 {
+        some_blocks(t, level, edits, places, counts)
+    } else {
+        all_blocks(t, level, edits, places, counts)
+    }
+}
+
+// The edits, places and counts after the forward rules. Only the levels that hand on have states.
+pub fn optimise(t: &[u32], level: Level, edits: &mut [u32], places: &mut [u32], counts: &mut [u32])
+    ensures { λ _. ⌜ (Ordered (now (t .entry)) → (n : ℕ) (w : Walk) → w .rec ≡ fresh → Written (now (t .entry)) (now (edits .entry)) (now (places .entry)) (now (counts .entry)) (n + walkMost) w
+        → Written (now (t .entry)) (now (edits .exit)) (now (places .exit)) (now (counts .exit)) n (optimise (sheetIn (now (t .entry))) level w)) ⌝ }
+{
+    match level {
+        Level::Off => {}
+        _ => by_blocks(t, level, edits, places, counts),
     }
 }

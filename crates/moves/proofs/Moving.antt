@@ -4,17 +4,19 @@
 --     fated-removed, fated-kept, fated-sourced     the record by what becomes of it
 --     rewrite-kept, rewrite-removed, rewrite-sourced     the edits and the counts by what becomes of it
 --     move-by         the three together
---     edit-move, edit-remat, edit-espill, edit-ereload, edit-misplaced, edit-none     an edit
+--     edit-move, edit-remat, edit-other     an edit
 --     edits-none, edits-next, edits-end       the edits of an instruction, one after the other
 --     effects-none, effects-next, effects-end the same in the preparing walk
 use mathlib.Core.Path.{_≡_, refl, sym, _∙_, ap}
 use mathlib.Core.Bool.{Bool, true, false, _||_}
-use mathlib.Core.List.{List}
+use mathlib.Core.List.{List, [], _∷_}
 use mathlib.Core.Option.{Option, none, some, Option·elim}
 use Prim.Native.Nat.{ℕ, suc, _+_, _-_, _*_, _<_, _≤_}
 use native.Mathlib.Omega.{arith}
 use lib.ListN.{length, getD, set}
 use lib.Seq.{set-getD}
+use denote.Enum.Declared.{tagOf}
+use types.Run.{OneOf, miss}
 use borrow.Author.Tests.{lt-ltb, le-ltb}
 use Rattle.laws.specs.Fold.{run}
 use Rattle.laws.specs.Lists.{from}
@@ -28,6 +30,7 @@ use Rattle.entity.specs.declared.forms.Place.{Place}
 use Rattle.entity.specs.declared.forms.Place.the-variants.{Reg}
 use Rattle.entity.specs.declared.forms.Edit.{Edit}
 use Rattle.entity.specs.declared.forms.Edit.the-variants.{Move, Remat, Espill, Ereload, Misplaced, Nothing}
+use Rattle.entity.proofs.forms.Edit as Edits
 use Rattle.rules.specs.Cells.{numberLimit}
 use Rattle.rules.specs.Sheet.{Sheet}
 use Rattle.rules.specs.Accept.{placed}
@@ -250,6 +253,17 @@ walked-rec : {t rec rec′ edits places counts : List ℕ} {w : Walk} (n : ℕ) 
     → Walked t rec edits places counts (n + 1) w → Walked t rec′ edits places counts n (withRec f w)
 walked-rec n f p k = walked-with f p (walked-fewer n (omega arith) k)
 
+-- an edit whose tag is neither a move's nor a remat's changes the record alone
+other-is : (sh : Sheet) (b j : ℕ) (w : Walk) (e : Edit) → OneOf (1 ∷ 2 ∷ 3 ∷ 4 ∷ 5 ∷ []) (tagOf Edits.the-type e) → OneOf (0 ∷ 2 ∷ 3 ∷ 4 ∷ 5 ∷ []) (tagOf Edits.the-type e)
+    → getD (w .edits) j Nothing ≡ e → optimiseEdit sh b w j ≡ withRec (effect sh e) w
+unfolding optimiseEdit effect
+other-is sh b j w (Move to p v) x y q = absurd (miss (1 ∷ 2 ∷ 3 ∷ 4 ∷ 5 ∷ []) 0 tt x)
+other-is sh b j w (Remat to v) x y q = absurd (miss (0 ∷ 2 ∷ 3 ∷ 4 ∷ 5 ∷ []) 1 tt y)
+other-is sh b j w (Espill s r) x y q = rw (q, optimiseEdit) refl
+other-is sh b j w (Ereload r s) x y q = rw (q, optimiseEdit) refl
+other-is sh b j w (Misplaced to p) x y q = rw (q, optimiseEdit) refl
+other-is sh b j w Nothing x y q = rw (q, optimiseEdit) refl
+
 module _ {t classes rec edits counts : List ℕ} (b j : ℕ) {e : Edit} (r : e ≡ editIn edits j) where
   module _ {rec′ edits′ counts′ : List ℕ} where
     pub edit-move : {to p : Place} {v : Value} → e ≡ Move to p v → Moves t classes rec edits counts rec′ edits′ counts′ b j (record { to = to; from = Source.At p; value = v })
@@ -270,37 +284,10 @@ module _ {t classes rec edits counts : List ℕ} (b j : ℕ) {e : Edit} (r : e �
           rw (row ∙ q, optimiseEdit) (m g fl places n w h (row ∙ q) k);
     }
 
-  module _ {rec′ : List ℕ} (p : Long rec → Becomes rec rec′ (effect (sheetIn t) e (recordIn rec))) where
-    pub edit-espill : {s : SpillSlot} {x : PhysReg} → e ≡ Espill s x → Optimises t classes rec edits counts rec′ edits counts b j
-    unfolding optimiseEdit
-    edit-espill {s} {x} q = record {
-      goes = λ g fl places n w h k.
-          let row : getD (w .edits) j Nothing ≡ e = row-is (n + 1) j h k ∙ sym r in
-          rw (row ∙ q, optimiseEdit) (walked-rec n (effect (sheetIn t) (Espill s x)) (rw q at p) k);
-    }
-
-    pub edit-ereload : {s : SpillSlot} {x : PhysReg} → e ≡ Ereload x s → Optimises t classes rec edits counts rec′ edits counts b j
-    unfolding optimiseEdit
-    edit-ereload {s} {x} q = record {
-      goes = λ g fl places n w h k.
-          let row : getD (w .edits) j Nothing ≡ e = row-is (n + 1) j h k ∙ sym r in
-          rw (row ∙ q, optimiseEdit) (walked-rec n (effect (sheetIn t) (Ereload x s)) (rw q at p) k);
-    }
-
-  pub edit-misplaced : {to p : Place} → e ≡ Misplaced to p → Optimises t classes rec edits counts rec edits counts b j
-  unfolding optimiseEdit
-  edit-misplaced q = record {
-    goes = λ g fl places n w h k.
-        let row : getD (w .edits) j Nothing ≡ e = row-is (n + 1) j h k ∙ sym r in
-        rw (row ∙ q, optimiseEdit) (walked-fewer n (omega arith) k);
-  }
-
-  pub edit-none : e ≡ Nothing → Optimises t classes rec edits counts rec edits counts b j
-  unfolding optimiseEdit
-  edit-none q = record {
-    goes = λ g fl places n w h k.
-        let row : getD (w .edits) j Nothing ≡ e = row-is (n + 1) j h k ∙ sym r in
-        rw (row ∙ q, optimiseEdit) (walked-fewer n (omega arith) k);
+  pub edit-other : {rec′ : List ℕ} → OneOf (1 ∷ 2 ∷ 3 ∷ 4 ∷ 5 ∷ []) (tagOf Edits.the-type e) → OneOf (0 ∷ 2 ∷ 3 ∷ 4 ∷ 5 ∷ []) (tagOf Edits.the-type e)
+      → (Long rec → Becomes rec rec′ (effect (sheetIn t) e (recordIn rec))) → Optimises t classes rec edits counts rec′ edits counts b j
+  edit-other x y p = record {
+    goes = λ g fl places n w h k. rw (other-is (sheetIn t) b j w e x y (row-is (n + 1) j h k ∙ sym r)) (walked-rec n (effect (sheetIn t) e) p k);
   }
 
 -- ---- the rows of an instruction

@@ -228,6 +228,7 @@ fn optimise_move(
     record_fate(t, rec, b, a, fate);
 }
 
+// An edit, row j. Two matches of two arms each: with one match of six the compiler copies the lent record once more.
 fn optimise_edit(
     t: &[u32],
     rec: &mut [u32; LENGTH],
@@ -249,18 +250,17 @@ fn optimise_edit(
             };
             optimise_move(t, rec, classes, edits, counts, b, j, a)
         }
-        Edit::Remat { to, value } => {
-            let a = Arrival {
-                to,
-                from: Source::Nothing,
-                value,
-            };
-            optimise_move(t, rec, classes, edits, counts, b, j, a)
-        }
-        Edit::Espill { to: _, from: _ } => effect(t, rec, e),
-        Edit::Ereload { to: _, from: _ } => effect(t, rec, e),
-        Edit::Misplaced { to: _, from: _ } => {}
-        Edit::Nothing => {}
+        _ => match e {
+            Edit::Remat { to, value } => {
+                let a = Arrival {
+                    to,
+                    from: Source::Nothing,
+                    value,
+                };
+                optimise_move(t, rec, classes, edits, counts, b, j, a)
+            }
+            _ => effect(t, rec, e),
+        },
     }
 }
 

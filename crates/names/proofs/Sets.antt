@@ -1,20 +1,30 @@
 -- For `src/lists.rt`, and `all_units` of `src/names.rt`: loops that gather a set, and the test whether one of a list stands twice by the set of those
 -- passed. Assumes nothing.
-use mathlib.Core.Path.{_≡_, refl, sym, ap, _∙_}
-use mathlib.Core.Bool.{Bool, true, false, _&&_, _||_, or-assoc, or-true, or-false, and-false}
+use mathlib.Core.Path.{_≡_, refl, sym, _∙_}
+use mathlib.Core.Bool.{Bool, true, false, _||_, or-assoc, or-true, or-false}
 use mathlib.Core.List.{List, [], _∷_}
 use Prim.Native.Nat.{ℕ, zero, suc, _+_, _≤_, _<_}
 use native.Mathlib.Numerals.{add-one}
 use lib.Dec.{eqb, ltb}
 use lib.ListN.{length, getD, drop, drop-of-length-le}
 use lib.Seq.{drop-cons}
-use borrow.Author.Tests.{ltb-true, eq-eqb, ne-eqb}
+use borrow.Author.Tests.{ltb-true}
 use Rattle.laws.specs.Lists.{all, any, isIn, twice}
-use Rattle.laws.proofs.Cases.{by-bool, by-eq, eqb-same}
+use Rattle.laws.proofs.Cases.{by-bool, eqb-same}
 use Rattle.bits.specs.declared.sets.NumberSet.{NumberSet}
 use Rattle.bits.specs.Sets.{has, setOf, setLimit, IsSet}
 use Rattle.bits.proofs.Members.{has-setOf, is-set, is-setOf, setOf-same}
 use Rattle.table.proofs.Loops.{and-left, and-right}
+
+-- whether one of a list was found before the i-th or passes from there on
+module _ (f : ℕ → Bool) (found : Bool) (l : List ℕ) (i : ℕ) where
+  pub found-next : i < length l → ((found || f (getD l i 0)) || any f (drop (i + 1) l)) ≡ (found || any f (drop i l))
+  unfolding any
+  found-next h = rw (drop-cons l i 0 h, add-one) (or-assoc found (f (getD l i 0)) (any f (drop (suc i) l)))
+
+  pub found-end : length l ≤ i → found ≡ (found || any f (drop i l))
+  unfolding any
+  found-end h = rw (drop-of-length-le l h) (sym (or-false found))
 
 -- s with what the members of l from the i-th on add is all: member x adds the k of which q k x is true
 pub record Growing {A : Type 0} (q : ℕ → A → Bool) (l : List A) (all : NumberSet) (i : ℕ) (s : NumberSet) : Type 0 where
@@ -36,19 +46,6 @@ module _ {A : Type 0} {q : ℕ → A → Bool} {l : List A} {every : NumberSet} 
   pub grow-end : length l ≤ i → s ≡ every
   unfolding any
   grow-end h = is-setOf (λ k. has s k || any (q k) (drop i l)) s (g .set) (λ k b. rw (drop-of-length-le l h) (sym (or-false (has s k)))) ∙ g .rest
-
--- a set to which nothing is added
-pub add-none : (s : NumberSet) → IsSet s → (f : ℕ → Bool) → ((k : ℕ) → f k ≡ false) → s ≡ setOf (λ k. has s k || f k)
-add-none s p f h = is-setOf (λ k. has s k || f k) s p (λ k b. rw (h k) (sym (or-false (has s k))))
-
--- those of a list that are in a set
-pub in-both : (p : ℕ → Bool) (k : ℕ) (l : List ℕ) → (p k && isIn k l) ≡ any (λ x. p x && eqb k x) l
-unfolding isIn any
-in-both p k [] = by-bool (p k) (λ e. rw e) (λ e. rw e)
-in-both p k (x ∷ l) =
-    by-eq k x
-    (λ e. let px : p x ≡ p k = ap p (sym e) in by-bool (p k) (λ z. rw (← in-both p k l, px, eq-eqb k x e, z)) (λ z. rw (← in-both p k l, px, eq-eqb k x e, z)))
-    (λ e. rw (← in-both p k l, ne-eqb k x e, and-false (p x)))
 
 -- ---- a list all below the limit of sets
 
@@ -127,22 +124,6 @@ module _ (s : NumberSet) (l : List ℕ) (i : ℕ) where
   pub twice-end : length l ≤ i → again s (drop i l) ≡ false
   unfolding again any twice
   twice-end h = rw (drop-of-length-le l h)
-
--- a turn that adds x where a test says so
-module _ (s : NumberSet) (x : ℕ) {b : Bool} where
-  pub add-hit : b ≡ true → {s′ : NumberSet} → s′ ≡ setOf (λ k. has s k || eqb k x) → s′ ≡ setOf (λ k. has s k || (b && eqb k x))
-  add-hit e q = q ∙ setOf-same (λ k. has s k || eqb k x) (λ k. has s k || (b && eqb k x)) (λ k h. rw e)
-
-  pub add-miss : b ≡ false → IsSet s → s ≡ setOf (λ k. has s k || (b && eqb k x))
-  add-miss e p = add-none s p (λ k. b && eqb k x) (λ k. rw e)
-
--- before the first turn, where those of the list are added that are in a set
-pub grow-seen : (p : ℕ → Bool) (l : List ℕ) (s : NumberSet) → IsSet s → Growing (λ k x. p x && eqb k x) l (setOf (λ k. has s k || (p k && isIn k l))) 0 s
-grow-seen p l s z =
-    record {
-      set = z;
-      rest = setOf-same (λ k. has s k || any (λ x. p x && eqb k x) l) (λ k. has s k || (p k && isIn k l)) (λ k h. rw (in-both p k l));
-    }
 
 -- before the first turn, from nothing
 pub grow-none : {A : Type 0} (q : ℕ → A → Bool) (l : List A) {s : NumberSet} → s ≡ setOf (λ k. false) → Growing q l (setOf (λ k. any (q k) l)) 0 s

@@ -1,6 +1,6 @@
 // Tests over a list of numbers, and the sets of such lists.
 ghost use mathlib.Core.Path.{_≡_};
-ghost use mathlib.Core.Bool.{true, _&&_, _||_};
+ghost use mathlib.Core.Bool.{true, _||_};
 ghost use lib.Dec.{ltb};
 ghost use Rattle.laws.specs.Lists.{all, any, isIn, twice};
 ghost use Rattle.bits.specs.Sets.{has, setOf, setLimit};
@@ -24,14 +24,13 @@ pub(crate) fn all_below(list: &[u32], limit: u32) -> bool
 pub fn is_in(x: u32, list: &[u32]) -> bool
     ensures { λ r. ⌜ r ≡ isIn x (now (list .entry)) ⌝ }
 {
+    let mut found = false;
     let mut i: usize = 0;
     while i < list.len() {
-        if x == list[i] {
-            return true;
-        }
+        found = found | (x == list[i]);
         i += 1;
     }
-    false
+    found
 }
 
 // One of them stands twice, where all are below `NumberSet::LIMIT`.
@@ -90,22 +89,6 @@ pub fn with_all(s: NumberSet, list: &[u32]) -> NumberSet
     while i < list.len() {
         let x = list[i];
         grown = grown.insert(x);
-        i += 1;
-    }
-    grown
-}
-
-// The set with each of them that is in `seen`.
-pub fn with_seen(s: NumberSet, seen: NumberSet, list: &[u32]) -> NumberSet
-    ensures { λ r. ⌜ r ≡ setOf (λ k. has s k || (has seen k && isIn k (now (list .entry)))) ⌝ }
-{
-    let mut grown = s;
-    let mut i: usize = 0;
-    while i < list.len() {
-        let x = list[i];
-        if seen.contains(x) {
-            grown = grown.insert(x);
-        }
         i += 1;
     }
     grown

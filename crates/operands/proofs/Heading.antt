@@ -8,30 +8,36 @@ use native.Mathlib.Numerals.{add-one}
 use native.Mathlib.Omega.{arith}
 use lib.Dec.{eqb}
 use lib.ListN.{getD, drop, drop-of-length-le, List·getD-eq-default}
-use lib.Seq.{drop-cons}
+use lib.Seq.{drop-cons, getD-drop}
 use borrow.Author.Tests.{eq-eqb, ne-eqb, eqb-true, not-true}
 use Rattle.laws.specs.Lists.{any, keep}
 use Rattle.laws.proofs.Cases.{by-bool}
-use Rattle.rules.specs.Sheet.{Sheet, GroupRow}
+use Rattle.rules.specs.Sheet.{Sheet, GroupRow, field}
 use Rattle.rules.specs.Accept.{headedBy, headsApart, namesHold, allNamed, noneTwice}
 use Rattle.rules.specs.Forward.{groupRegs}
-use Rattle.table.specs.Rows.{countIn}
+use Rattle.table.specs.Rows.{countIn, kindRow}
 use Rattle.table.specs.Sheet.{sheetIn}
 use Rattle.table.specs.Index.{Ready}
 use Rattle.table.specs.View.{groupRow}
 use Rattle.table.proofs.Loops.{and-left, and-right, never}
 use Rattle.table.proofs.Sheets.{long-of, groups-are}
+use Rattle.table.proofs.Views.{class-is, group-regs-are}
 
 -- ---- one group
 
-module _ (c r : ℕ) {k : ℕ} (x : GroupRow) (e : k ≡ x .class) where
-  pub other-class : (k ≡ c → ⊥) → false ≡ headedBy c r x
-  unfolding headedBy
-  other-class n = rw (← e, ne-eqb k c n)
+module _ (t : List ℕ) (g c r : ℕ) {l : List ℕ} (e : l ≡ kindRow t 3 g) {k : ℕ} (p : k ≡ getD l 2 0) where
+  class-read : k ≡ groupRow (sheetIn t) g .class
+  class-read = p ∙ ap (field 2) e ∙ class-is t g
 
-  pub of-class : {l : List ℕ} {h : ℕ} → k ≡ c → l ≡ x .regs → h ≡ getD l 0 0 → eqb h r ≡ headedBy c r x
+  pub other-class : (k ≡ c → ⊥) → false ≡ headedBy c r (groupRow (sheetIn t) g)
   unfolding headedBy
-  of-class q m p = rw (← e, eq-eqb k c q, p, m)
+  other-class n = rw (← class-read, ne-eqb k c n)
+
+  pub of-class : {h : ℕ} → k ≡ c → h ≡ getD l 3 0 → eqb h r ≡ headedBy c r (groupRow (sheetIn t) g)
+  unfolding headedBy
+  of-class {h} q m =
+      let y : h ≡ getD (groupRow (sheetIn t) g .regs) 0 0 = m ∙ ap (field 3) e ∙ sym (getD-drop 3 (kindRow t 3 g) 0 0) ∙ ap (field 0) (group-regs-are t g) in
+      rw (← class-read, eq-eqb k c q, ← y)
 
 head-of : (c r : ℕ) (x : GroupRow) → headedBy c r x ≡ true → (x .class ≡ c) × (getD (x .regs) 0 0 ≡ r)
 unfolding headedBy

@@ -22,8 +22,6 @@ use table::rows::count;
 use table::rows::row_of;
 use table::view::Operand;
 use table::view::constraint_of;
-use table::view::group_class;
-use table::view::group_regs;
 use table::view::kind_of;
 use table::view::operand_at;
 use table::view::place_of;
@@ -110,11 +108,11 @@ pub fn class_for(t: &[u32], o: Operand) -> FoundClass
 pub fn headed_by(t: &[u32], g: RegGroup, c: RegClass, r: PhysReg) -> bool
     ensures { λ x. ⌜ x ≡ headedBy (c .0) (r .0) (groupRow (sheetIn (now (t .entry))) (g .0)) ⌝ }
 {
-    let class = group_class(t, g);
-    if class.0 != c.0 {
+    let row = row_of(t, Kind::GROUP, g.0);
+    if read_u32(row, 2) != c.0 {
         return false;
     }
-    read_u32(group_regs(t, g), 0) == r.0
+    read_u32(row, 3) == r.0
 }
 
 // The group of class c that begins with register r, or one past the last.

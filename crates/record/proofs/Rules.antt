@@ -1,14 +1,14 @@
 -- What the parts of each function of src/steps.rt make of the record is what its rule in rules/specs/Record.antt says. Assumes nothing.
 use mathlib.Core.Path.{_≡_, refl, sym, _∙_, ap}
-use mathlib.Core.Bool.{Bool, true, false, cond, _||_}
+use mathlib.Core.Bool.{Bool, true, false, cond, not, _&&_, _||_}
 use mathlib.Core.List.{List, map, map-id}
 use mathlib.Core.Option.{Option, none, some, Option·elim}
 use Prim.Native.Nat.{ℕ, _+_, _<_, _≤_}
 use native.Mathlib.Omega.{arith}
 use lib.Dec.{eqb, ltb}
 use lib.ListN.{length, getD, set, drop, length-take, length-drop, length-map, List·getD-map}
-use lib.Seq.{getD-take, getD-drop, ext-getD}
-use borrow.Author.Tests.{lt-ltb, le-ltb, eq-eqb, ne-eqb}
+use lib.Seq.{getD-take, getD-drop, ext-getD, set-getD}
+use borrow.Author.Tests.{lt-ltb, le-ltb, eq-eqb, ne-eqb, eqb-true}
 use Rattle.laws.specs.Fold.{run}
 use Rattle.laws.specs.Lists.{all}
 use Rattle.laws.proofs.Lists.{getD-any, MapTo, map-store}
@@ -21,7 +21,7 @@ use Rattle.entity.specs.declared.forms.Place.the-variants.{Reg, Slot}
 use Rattle.entity.specs.declared.forms.Edit.{Edit}
 use Rattle.entity.specs.declared.forms.Edit.the-variants.{Move, Remat, Espill, Ereload, Misplaced, Nothing}
 use Rattle.rules.specs.Sheet.{Sheet, unitsOf, homeOf}
-use Rattle.rules.specs.Record.{absent, writeUnit, hold, store, defineIn, spillIn, noteUnit, holds, takeFrom, forgetUnit, dropValue, overwrite, emptyHome, isHome, define, arrive, espill, writeBack, addBack, ereload, effect}
+use Rattle.rules.specs.Record.{Record, withKnown, absent, writeUnit, hold, store, defineIn, spillIn, noteUnit, holds, takeFrom, forgetUnit, dropValue, overwrite, emptyHome, isHome, define, arrive, espill, writeBack, addBack, ereload, effect}
 use Rattle.table.specs.View.{slotFound}
 use Rattle.table.proofs.Loops.{all-false-in, all-next-in, all-end-in}
 use Rattle.table.specs.declared.view.FoundSlot.{FoundSlot}
@@ -29,7 +29,11 @@ use Rattle.table.specs.declared.view.FoundSlot.the-variants as FoundSlot
 use Rattle.record.specs.Layout.{definedAt, heldAt, notedRegAt, notedValueAt, spilledAt, storedAt, unitRegAt, unitValueAt}
 use Rattle.record.specs.Flat.{section, recordIn, unitRegIn, unitValueIn, heldIn, notedRegIn, notedValueIn, unitWritten, regHolds, slotHolds, definedBy, spilledBy, Long, Becomes}
 use Rattle.record.proofs.Sections.{unit-reg-is, unit-value-is, held-is, noted-reg-is, noted-value-is}
-use Rattle.record.proofs.Changes.{writing, holding, storing, defining, spilling, becomes-same, after}
+use Rattle.record.proofs.Changes.{writing, holding, storing, defining, spilling, becomes-same, becomes-as, after}
+
+cond-same : {x y : Record} (b : Bool) → x ≡ y → y ≡ cond b x y
+cond-same true p = sym p
+cond-same false p = refl
 
 -- ---- registers and units
 
@@ -235,6 +239,15 @@ module _ (sh : Sheet) where
     pub no-note-added : r ≡ absent → Long a → Becomes a a (addBack sh (recordIn a) u)
     unfolding addBack
     no-note-added h l = rw (← noted-reg-is a l u, ← e, h) (becomes-same a)
+
+    -- where the register holds the value already, it is added or not to the same effect
+    pub held-already : {v : ℕ} {t : Bool} → v ≡ notedValueIn a u → (Long a → t ≡ holds (recordIn a) r v) → t ≡ true → Long a → Becomes a a (addBack sh (recordIn a) u)
+    unfolding addBack holds
+    held-already {v} f q k l =
+        let s = recordIn a in
+        let z : getD (s .known .held) r absent ≡ v = eqb-true (getD (s .known .held) r absent) v (sym (q l) ∙ k) in
+        let same : hold r v s ≡ s = ap (λ (h : List ℕ). withKnown (record { held = h; stored = s .known .stored }) s) (ap (set (s .known .held) r) (sym z) ∙ set-getD (s .known .held) r absent) in
+        rw (← noted-reg-is a l u, ← noted-value-is a l u, ← e, ← f) (becomes-as (becomes-same a) (cond-same (not (eqb r absent) && (eqb (length (unitsOf sh r)) 1 || all (λ w. eqb (getD (s .writes .value) w absent) v) (unitsOf sh r))) same))
 
     module _ {v : ℕ} {us : List ℕ} {t : Bool} (h : r ≡ absent → ⊥) (f : v ≡ notedValueIn a u) (g : us ≡ unitsOf sh r) (q : Long a → t ≡ (eqb (length us) 1 || all (λ w. eqb (getD (recordIn a .writes .value) w absent) v) us)) where
       pub added-back : {b : List ℕ} → t ≡ true → b ≡ regHolds r v a → Long a → Becomes a b (addBack sh (recordIn a) u)

@@ -226,13 +226,16 @@ fn joins(rec: &[u32; LENGTH], us: &[u32], v: u32) -> bool
     all_written(rec, us, v)
 }
 
-// A noted register is added where it has one unit or all its units' last writes are of that value.
+// A noted register is added where it has one unit or all its units' last writes are of that value. Where it holds the value already, neither is asked.
 fn add_back(t: &[u32], rec: &mut [u32; LENGTH], u: RegUnit)
     ensures { λ _. ⌜ (Long (now (rec .entry)) → Becomes (now (rec .entry)) (now (rec .exit)) (Rule.addBack (sheetIn (now (t .entry))) (recordIn (now (rec .entry))) (u .0))) ⌝ }
 {
     let r = noted_reg(rec, u);
     let v = noted_value(rec, u);
     if r == NONE {
+        return;
+    }
+    if holds(rec, PhysReg(r), Value(v)) {
         return;
     }
     let us = units(t, PhysReg(r));

@@ -40,9 +40,6 @@ clobWord = 100012
 abbrev pub editWord : ℕ
 editWord = 100013
 
-abbrev pub useWord : ℕ
-useWord = 100015
-
 abbrev pub defgWord : ℕ
 defgWord = 100017
 

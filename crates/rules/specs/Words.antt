@@ -14,6 +14,9 @@ slotsWord = 100001
 abbrev pub defWord : ℕ
 defWord = 100014
 
+abbrev pub useWord : ℕ
+useWord = 100015
+
 abbrev pub earlyWord : ℕ
 earlyWord = 100016
 
@@ -35,5 +38,5 @@ noneWord = 100025
 -- each word's cell is the mark and its place; each name is the cell of its word; each mark that of `r0`, `s0`, `c0`, `f0` or `u0`
 pub record Named : Type 0 where
   pub by-place : map word words ≡ from wordMark (length words)
-  pub by-word : map word ("slots" ∷ "def" ∷ "early" ∷ "move" ∷ "remat" ∷ "espill" ∷ "ereload" ∷ "none" ∷ []) ≡ (slotsWord ∷ defWord ∷ earlyWord ∷ moveWord ∷ rematWord ∷ espillWord ∷ ereloadWord ∷ noneWord ∷ [])
+  pub by-word : map word ("slots" ∷ "def" ∷ "use" ∷ "early" ∷ "move" ∷ "remat" ∷ "espill" ∷ "ereload" ∷ "none" ∷ []) ≡ (slotsWord ∷ defWord ∷ useWord ∷ earlyWord ∷ moveWord ∷ rematWord ∷ espillWord ∷ ereloadWord ∷ noneWord ∷ [])
   pub by-mark : map (λ m. cellOf (m ∷ bytes "0")) marks ≡ map some (regMark ∷ slotMark ∷ classMark ∷ fixedMark ∷ reuseMark ∷ [])

@@ -61,21 +61,21 @@ module _ (s : List ℕ) where
 
 abbrev pub Answer : List ℕ → List ℕ → List ℕ → Bool → Type 0
 Answer s t₀ t a =
-    (a ≡ (leb tableLength (length t₀) && isSome (rowsOf s)))
-    × ((rs : List (List ℕ)) → rowsOf s ≡ some rs → tableLength ≤ length t₀ → Indexed rs t)
+    (a ≡ (leb (tableLength (length s)) (length t₀) && isSome (rowsOf s)))
+    × ((rs : List (List ℕ)) → rowsOf s ≡ some rs → tableLength (length s) ≤ length t₀ → Indexed rs t)
 
 module _ (s t₀ t : List ℕ) where
-  pub too-short : length t₀ < tableLength → Answer s t₀ t false
-  too-short h = (sym (ap (λ (b : Bool). b && isSome (rowsOf s)) (lt-leb tableLength (length t₀) h)), λ rs e l. absurd (omega arith))
+  pub too-short : length t₀ < tableLength (length s) → Answer s t₀ t false
+  too-short h = (sym (ap (λ (b : Bool). b && isSome (rowsOf s)) (lt-leb (tableLength (length s)) (length t₀) h)), λ rs e l. absurd (omega arith))
 
   pub refused : rowsOf s ≡ none → Answer s t₀ t false
   unfolding isSome
-  refused e = (sym (ap (λ (o : Option (List (List ℕ))). leb tableLength (length t₀) && isSome o) e ∙ and-false (leb tableLength (length t₀))), λ rs g l. some-ne-none g e)
+  refused e = (sym (ap (λ (o : Option (List (List ℕ))). leb (tableLength (length s)) (length t₀) && isSome o) e ∙ and-false (leb (tableLength (length s)) (length t₀))), λ rs g l. some-ne-none g e)
 
-  pub accepted : (rs : List (List ℕ)) → rowsOf s ≡ some rs → tableLength ≤ length t₀ → Indexed rs t → Answer s t₀ t true
+  pub accepted : (rs : List (List ℕ)) → rowsOf s ≡ some rs → tableLength (length s) ≤ length t₀ → Indexed rs t → Answer s t₀ t true
   unfolding isSome
   accepted rs e h x = (
-    rw (le-leb tableLength (length t₀) h, e),
+    rw (le-leb (tableLength (length s)) (length t₀) h, e),
     λ rs′ g l. let same : rs ≡ rs′ = Option·some-injective _ _ (sym e ∙ g) in rw (← same) x,
   )
 
@@ -87,9 +87,9 @@ some-is (some rs) e = (rs, refl)
 
 pub answer-true : (s t₀ t : List ℕ) {a : Bool} → Answer s t₀ t a → a ≡ true → (rs : List (List ℕ)) × (rowsOf s ≡ some rs) × Indexed rs t
 answer-true s t₀ t x e =
-    let b = and-parts (leb tableLength (length t₀)) (isSome (rowsOf s)) (sym (x .0) ∙ e) in
+    let b = and-parts (leb (tableLength (length s)) (length t₀)) (isSome (rowsOf s)) (sym (x .0) ∙ e) in
     let y = some-is (rowsOf s) (b .1) in
-    (y .0, y .1, x .1 (y .0) (y .1) (leb-true tableLength (length t₀) (b .0)))
+    (y .0, y .1, x .1 (y .0) (y .1) (leb-true (tableLength (length s)) (length t₀) (b .0)))
 
 -- and what false says, of a table that is long enough
 none-is : (o : Option (List (List ℕ))) → isSome o ≡ false → o ≡ none
@@ -97,6 +97,6 @@ unfolding isSome
 none-is none e = refl
 none-is (some rs) e = absurd (false≢true (sym e))
 
-pub answer-false : (s t₀ t : List ℕ) {a : Bool} → Answer s t₀ t a → a ≡ false → tableLength ≤ length t₀ → rowsOf s ≡ none
+pub answer-false : (s t₀ t : List ℕ) {a : Bool} → Answer s t₀ t a → a ≡ false → tableLength (length s) ≤ length t₀ → rowsOf s ≡ none
 answer-false s t₀ t x e h =
-    none-is (rowsOf s) (sym (ap (λ (b : Bool). b && isSome (rowsOf s)) (le-leb tableLength (length t₀) h)) ∙ sym (x .0) ∙ e)
+    none-is (rowsOf s) (sym (ap (λ (b : Bool). b && isSome (rowsOf s)) (le-leb (tableLength (length s)) (length t₀) h)) ∙ sym (x .0) ∙ e)

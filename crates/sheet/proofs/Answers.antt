@@ -1,4 +1,4 @@
--- For src/fields.rt and `field` of src/lexing.rt, which answer with an enum of their own: what an answer says of the specification's option, and back.
+-- For `mark` and `lookup` of src/fields.rt, which answer with an enum of their own, and their callers in src/lexing.rt: what an answer says of the specification's option, and back.
 -- Assumes nothing.
 use mathlib.Core.Path.{_≡_, refl}
 use mathlib.Core.Option.{Option, none, some}
@@ -17,10 +17,6 @@ pub is-none : {r : Num} (o : Option ℕ) → r ≡ asNum o → r ≡ Nothing →
 unfolding asNum
 is-none none e g = refl
 is-none (some n) e g = let z : _≡_ {A = ℕ} 0 1 = cc in absurd (omega arith)
-
-pub a-num : {o : Option ℕ} {v : ℕ} → o ≡ some v → Is v ≡ asNum o
-unfolding asNum
-a-num e = rw e
 
 pub nothing : {o : Option ℕ} → o ≡ none → Nothing ≡ asNum o
 unfolding asNum

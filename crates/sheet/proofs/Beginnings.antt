@@ -55,7 +55,7 @@ module _ {rs : List (List ℕ)} {t : List ℕ} {i k : ℕ} (x : Indexing rs t i 
       let count : before k rs ≡ i =
       counted (λ r. ltb (kind r) (slotsWord + k)) rs i h (λ j u. lt-ltb _ _ (x .passed j u)) (λ j a b. le-ltb _ _ (later-i j a b)) in
       record {
-        held = holds-store (x .held) k i;
+        held = holds-store (x .held) (kindIndex + k) i (omega arith);
         begun =
             section-store t kindIndex k i m ∙ ap (λ (l : List ℕ). l ++ (i ∷ [])) (x .begun)
             ∙ sym

@@ -1,11 +1,10 @@
 -- For the loops of src/lexing.rt and src/kinds.rt: a table that is filled from the front of each of its sections, and the sections' lists, a row more at a time. Assumes nothing.
 use mathlib.Core.Path.{_≡_, refl, _∙_, ap}
 use mathlib.Core.List.{List, [], _∷_, _++_, append-assoc, append-nil}
-use Prim.Native.Nat.{ℕ, _+_, _<_}
-use native.Mathlib.Nat.{add-assoc}
+use Prim.Native.Nat.{ℕ, zero, suc, _+_, _<_, _≤_}
 use native.Mathlib.Numerals.{add-one}
 use native.Mathlib.Omega.{arith}
-use lib.ListN.{length, take, drop, set, length-append, length-drop}
+use lib.ListN.{length, getD, take, drop, set, length-drop}
 use lib.Seq.{take-suc-set, drop-set-add}
 use Rattle.table.specs.Table.{flatten, offsets}
 
@@ -26,7 +25,9 @@ unfolding flatten
 flatten-more [] r = append-nil r
 flatten-more (x ∷ rs) r = rw (flatten-more rs r, append-assoc)
 
-pub offsets-more : (rs : List (List ℕ)) (a : ℕ) (r : List ℕ) → offsets a (rs ++ (r ∷ [])) ≡ offsets a rs ++ ((a + length (flatten rs ++ r)) ∷ [])
-unfolding offsets flatten
-offsets-more [] a r = refl
-offsets-more (x ∷ rs) a r = ap (λ (l : List ℕ). a ∷ l) (offsets-more rs (a + length x) r ∙ rw (add-assoc, ← length-append, append-assoc))
+pub offsets-kept : (rs : List (List ℕ)) (a : ℕ) (r : List ℕ) (i : ℕ) → i ≤ length rs → getD (offsets a (rs ++ (r ∷ []))) i 0 ≡ getD (offsets a rs) i 0
+unfolding offsets
+offsets-kept [] a r zero h = refl
+offsets-kept [] a r (suc i) h = absurd (omega arith)
+offsets-kept (x ∷ rs) a r zero h = refl
+offsets-kept (x ∷ rs) a r (suc i) h = offsets-kept rs (a + length x) r i (omega arith)

@@ -5,10 +5,12 @@ use mathlib.Core.List.{List, [], _∷_}
 use Prim.Native.Nat.{ℕ, suc, _+_, _-_, _<_, _≤_}
 use native.Mathlib.Omega.{arith}
 use lib.ListN.{length, getD, take, drop}
-use borrow.Author.Tests.{lt-ltb, le-ltb, ne-eqb}
+use lib.Dec.{leb}
+use borrow.Author.Tests.{lt-ltb, le-ltb, lt-leb, le-leb, ne-eqb}
 use Rattle.laws.specs.Lists.{all}
+use Rattle.laws.proofs.Cases.{by-lt}
 use Rattle.rules.specs.Cells.{numberLimit}
-use Rattle.rules.specs.Rows.{Field, number, dash, place, constraint, only, _upTo_, fieldOk, Shape, end, list, list₁, _▸_, fits, opShape, editShape, rowOk}
+use Rattle.rules.specs.Rows.{Field, number, flag, dash, place, constraint, only, _upTo_, fieldOk, Shape, end, list, list₁, _▸_, fits, opShape, editShape, rowOk}
 use Rattle.sheet.specs.Grammar.{plainOp, fixedOp, fitsKind}
 use Rattle.sheet.proofs.Lists.{drop-step, drop-end, part-rest}
 
@@ -137,49 +139,63 @@ not-edit cs h =
       not-5 number (only "none") dash dash dash cs h,
     )
 
--- ---- lists
+-- ---- lists: as many numbers at least as the shape has, and a flag is a number
 
 -- the part of the cells that the code hands on is what stands after the fields
 rest : (k : ℕ) (cs : List ℕ) → all (fieldOk number) (take (length cs - k) (drop k cs)) ≡ all (fieldOk number) (drop k cs)
 rest k cs = ap (all (fieldOk number)) (part-rest cs k)
 
-module _ (a : Field) where
-  pub listed : (cs : List ℕ) → 2 ≤ length cs → (fieldOk a (getD cs 0 0) && all (fieldOk number) (take (length cs - 1) (drop 1 cs))) ≡ fits (a ▸ list₁) cs
-  unfolding fits
-  listed [] h = absurd (omega arith)
-  listed (u ∷ cs) h = ap (λ (b : Bool). fieldOk a u && b) (rest 1 (u ∷ cs) ∙ rw (lt-ltb 0 (length cs) (omega arith)))
+pub listed-is : (cs : List ℕ) (n : ℕ) → 1 ≤ n → n ≤ length cs
+    → (fieldOk number (getD cs 0 0) && all (fieldOk number) (take (length cs - 1) (drop 1 cs))) ≡ (leb n (length cs) && all (fieldOk number) cs)
+unfolding all
+listed-is [] n g h = absurd (omega arith)
+listed-is (u ∷ cs) n g h = rw (rest 1 (u ∷ cs), le-leb n (suc (length cs)) h)
 
-  pub not-listed : (cs : List ℕ) → length cs < 2 → false ≡ fits (a ▸ list₁) cs
-  unfolding fits
-  not-listed [] h = refl
-  not-listed (u ∷ cs) h = rw (le-ltb 0 (length cs) (omega arith), and-false)
+flag-second : (a c : Bool) (v : ℕ) → (a && (fieldOk number v && c) && fieldOk flag v) ≡ (a && (fieldOk flag v && c))
+unfolding fieldOk
+flag-second a c v =
+    by-lt v 2 (λ h. rw (lt-ltb v 2 h, lt-ltb v numberLimit (omega arith)) (and-true (a && c)))
+    (λ h. rw (le-ltb v 2 h, and-false, and-false))
 
-module _ (a b : Field) where
-  pub listed-2 : (cs : List ℕ) → 3 ≤ length cs
-      → (fieldOk a (getD cs 0 0) && fieldOk b (getD cs 1 0) && all (fieldOk number) (take (length cs - 2) (drop 2 cs))) ≡ fits (a ▸ b ▸ list₁) cs
-  unfolding fits
-  listed-2 [] h = absurd (omega arith)
-  listed-2 (u ∷ []) h = absurd (omega arith)
-  listed-2 (u ∷ v ∷ cs) h = rw (rest 2 (u ∷ v ∷ cs), lt-ltb 0 (length cs) (omega arith)) (and-assoc (fieldOk a u) (fieldOk b v) (all (fieldOk number) cs))
+pub flagged-is : (cs : List ℕ) (n : ℕ) → 2 ≤ n → n ≤ length cs
+    → (fieldOk number (getD cs 0 0) && fieldOk flag (getD cs 1 0) && all (fieldOk number) (take (length cs - 2) (drop 2 cs)))
+    ≡ (leb n (length cs) && all (fieldOk number) cs && fieldOk flag (getD cs 1 0))
+unfolding all
+flagged-is [] n g h = absurd (omega arith)
+flagged-is (u ∷ []) n g h = absurd (omega arith)
+flagged-is (u ∷ v ∷ cs) n g h =
+    rw (rest 2 (u ∷ v ∷ cs), le-leb n (suc (suc (length cs))) h)
+    (and-assoc (fieldOk number u) (fieldOk flag v) (all (fieldOk number) cs) ∙ sym (flag-second (fieldOk number u) (all (fieldOk number) cs) v))
 
-  pub not-listed-2 : (cs : List ℕ) → length cs < 3 → false ≡ fits (a ▸ b ▸ list₁) cs
-  unfolding fits
-  not-listed-2 [] h = refl
-  not-listed-2 (u ∷ []) h = sym (and-false (fieldOk a u))
-  not-listed-2 (u ∷ v ∷ cs) h = rw (le-ltb 0 (length cs) (omega arith), and-false, and-false)
+pub two-or-more : (cs : List ℕ) → (leb 2 (length cs) && all (fieldOk number) cs) ≡ fits (number ▸ list₁) cs
+unfolding all fits
+two-or-more [] = refl
+two-or-more (u ∷ cs) =
+    by-lt 0 (length cs) (λ h. rw (le-leb 2 (suc (length cs)) (omega arith), lt-ltb 0 (length cs) h))
+    (λ h. rw (lt-leb 2 (suc (length cs)) (omega arith), le-ltb 0 (length cs) h, and-false))
 
-  pub listed-3 : (cs : List ℕ) → 2 ≤ length cs
-      → (fieldOk a (getD cs 0 0) && fieldOk b (getD cs 1 0) && all (fieldOk number) (take (length cs - 2) (drop 2 cs))) ≡ fits (a ▸ b ▸ list) cs
-  unfolding fits
-  listed-3 [] h = absurd (omega arith)
-  listed-3 (u ∷ []) h = absurd (omega arith)
-  listed-3 (u ∷ v ∷ cs) h = rw (rest 2 (u ∷ v ∷ cs)) (and-assoc (fieldOk a u) (fieldOk b v) (all (fieldOk number) cs))
+pub three-or-more : (cs : List ℕ) → (leb 3 (length cs) && all (fieldOk number) cs) ≡ fits (number ▸ number ▸ list₁) cs
+unfolding all fits
+three-or-more [] = refl
+three-or-more (u ∷ []) = sym (and-false (fieldOk number u))
+three-or-more (u ∷ v ∷ cs) =
+    by-lt 0 (length cs) (λ h. rw (le-leb 3 (suc (suc (length cs))) (omega arith), lt-ltb 0 (length cs) h))
+    (λ h. rw (lt-leb 3 (suc (suc (length cs))) (omega arith), le-ltb 0 (length cs) h, and-false, and-false))
 
-  pub not-listed-3 : (cs : List ℕ) → length cs < 2 → false ≡ fits (a ▸ b ▸ list) cs
-  unfolding fits
-  not-listed-3 [] h = refl
-  not-listed-3 (u ∷ []) h = sym (and-false (fieldOk a u))
-  not-listed-3 (u ∷ v ∷ cs) h = absurd (omega arith)
+pub flagged-two : (cs : List ℕ) → (leb 2 (length cs) && all (fieldOk number) cs && fieldOk flag (getD cs 1 0)) ≡ fits (number ▸ flag ▸ list) cs
+unfolding all fits
+flagged-two [] = refl
+flagged-two (u ∷ []) = sym (and-false (fieldOk number u))
+flagged-two (u ∷ v ∷ cs) = rw (le-leb 2 (suc (suc (length cs))) (omega arith)) (flag-second (fieldOk number u) (all (fieldOk number) cs) v)
+
+pub flagged-three : (cs : List ℕ) → (leb 3 (length cs) && all (fieldOk number) cs && fieldOk flag (getD cs 1 0)) ≡ fits (number ▸ flag ▸ list₁) cs
+unfolding all fits
+flagged-three [] = refl
+flagged-three (u ∷ []) = sym (and-false (fieldOk number u))
+flagged-three (u ∷ v ∷ cs) =
+    by-lt 0 (length cs)
+    (λ h. rw (le-leb 3 (suc (suc (length cs))) (omega arith), lt-ltb 0 (length cs) h) (flag-second (fieldOk number u) (all (fieldOk number) cs) v))
+    (λ h. rw (lt-leb 3 (suc (suc (length cs))) (omega arith), le-ltb 0 (length cs) h, and-false, and-false))
 
 -- ---- all are numbers, at a cursor
 

@@ -1,10 +1,10 @@
 pub mod Lists
-pub mod Numbers
-pub mod Marks
-pub mod Tables
-pub mod Packing
-pub mod Answers
 pub mod Pieces
+pub mod Numbers
+pub mod Packing
+pub mod Heads
+pub mod Marks
+pub mod Answers
 pub mod Cuts
 pub mod Buffers
 pub mod Reading

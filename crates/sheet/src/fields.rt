@@ -1,53 +1,49 @@
-// Fields: the cell that a field's bytes are. What ends a field is left to lexing.
+// Fields: what stands at the head of some bytes, digits, a mark or a word, and the number that it is. What ends a field is left to lexing.
 ghost use mathlib.Core.Path.{_≡_};
-ghost use Prim.Native.Nat.{_<_, _≤_};
-ghost use lib.Dec.{eqb};
+ghost use lib.Dec.{eqb, ltb};
 ghost use lib.ListN.{length};
-ghost use Rattle.rules.specs.Cells.{find, marks, numberOf, markedOf, wordOf, cellOf, wordMark};
+ghost use Rattle.rules.specs.Cells.{find, marks, isDigit, decimal, wordMark};
 ghost use Rattle.sheet.specs.Packing.{pack, findNum, packed};
-ghost use Rattle.sheet.specs.Answers.{asNum};
-use entity::cells::Mark;
-use entity::cells::Number;
+ghost use Rattle.sheet.specs.Answers.{asNum, lead};
+use bits::tables::read_u8;
+use entity::cells::Word;
 
 pub enum Num {
     Is(u32),
     Nothing,
 }
 
-// The number that all of f is.
-fn number(f: &[u8]) -> Num
-    ensures { λ r. ⌜ r ≡ asNum (numberOf (now (f .entry))) ⌝ }
+// The number of some digits, and how many they are.
+pub struct Decimal(pub u32, pub usize);
+
+// Some bytes as one number that no other bytes have, and how many they are.
+pub struct Pack(pub u64, pub usize);
+
+pub fn is_digit(b: u8) -> bool
+    ensures { λ r. ⌜ r ≡ isDigit b ⌝ }
 {
-    let n = f.len();
-    if n == 0 {
-        return Num::Nothing;
-    }
-    if 5 < n {
-        return Num::Nothing;
-    }
+    (b'0' <= b) & (b <= b'9')
+}
+
+// The digits at the head of t, five at most.
+pub fn digits(t: &[u8]) -> Decimal
+    ensures { λ r. ⌜ (r .0 ≡ decimal 0 (lead isDigit 5 (now (t .entry)))) × (r .1 ≡ length (lead isDigit 5 (now (t .entry)))) ⌝ }
+{
     let mut v: u32 = 0;
-    let mut i = 0;
-    while i < n {
-        let b = f[i];
-        if b < b'0' {
-            return Num::Nothing;
-        }
-        if b'9' < b {
-            return Num::Nothing;
+    let mut k: usize = 0;
+    while k < 5 {
+        let b = read_u8(t, k);
+        if !is_digit(b) {
+            return Decimal(v, k);
         }
         v = v * 10 + (b - b'0') as u32;
-        i += 1;
+        k += 1;
     }
-    if 1 < n {
-        if f[0] == b'0' {
-            return Num::Nothing;
-        }
-    }
-    Num::Is(v)
+    Decimal(v, k)
 }
 
 // Which mark a byte is, in hundred thousands of the cell.
-fn mark(b: u8) -> Num
+pub fn mark(b: u8) -> Num
     ensures { λ r. ⌜ r ≡ asNum (find (eqb b) 2 marks) ⌝ }
 {
     match b {
@@ -60,108 +56,56 @@ fn mark(b: u8) -> Num
     }
 }
 
-// The place or constraint that all of f is.
-fn marked(f: &[u8]) -> Num
-    ensures { λ r. ⌜ r ≡ asNum (markedOf (now (f .entry))) ⌝ }
+// The bytes over a comma at the head of t, seven at most: all bytes of words are.
+pub fn packed(t: &[u8]) -> Pack
+    ensures { λ r. ⌜ (r .0 ≡ pack (lead (ltb 44) 7 (now (t .entry)))) × (r .1 ≡ length (lead (ltb 44) 7 (now (t .entry)))) ⌝ }
 {
-    if f.len() == 0 {
-        return Num::Nothing;
+    let mut w: u64 = 0;
+    let mut m: u64 = 1;
+    let mut k: usize = 0;
+    while k < 7 {
+        let b = read_u8(t, k);
+        if b <= b',' {
+            return Pack(w + m, k);
+        }
+        w += b as u64 * m;
+        m *= 256;
+        k += 1;
     }
-    match mark(f[0]) {
-        Num::Is(k) => match number(&f[1..]) {
-            Num::Is(v) => Num::Is(k * Number::LIMIT + v),
-            Num::Nothing => Num::Nothing,
-        },
-        Num::Nothing => Num::Nothing,
-    }
+    Pack(w + m, k)
 }
 
-// At most seven bytes as one number, that no other bytes have.
-fn packed(f: &[u8]) -> u64
-    requires { ⌜ length (now f) ≤ 7 ⌝ }
-    ensures { λ r. ⌜ r ≡ pack (now (f .entry)) ⌝ }
-{
-    let mut w: u64 = 1;
-    let mut i = f.len();
-    while 0 < i {
-        i -= 1;
-        let b = f[i] as u64;
-        w = w * 256 + b;
-    }
-    w
-}
-
-// Each word, packed, times 32 and its place in `words`; it stands where no other does.
-const KEYS: [u64; 37] = [
-    0,
-    753708610,
-    192949415602,
-    190285974636,
-    0,
-    9632,
-    3018219,
-    191338794505,
-    12822011454581943,
-    0,
-    190797753960,
-    199937002669,
-    51872707390640,
-    0,
-    48982743919828,
-    751611022,
-    51179596590678,
-    0,
-    0,
-    749629103,
-    191911292341,
-    0,
-    50217534369290,
-    0,
-    0,
-    49943724002375,
-    0,
-    191894515161,
-    12647877915192499,
-    51052362436193,
-    49128747577029,
-    51051796204643,
-    3209991132699053240,
-    12963989118840518,
-    0,
-    192951397521,
-    50640582495460,
-];
-
-fn lookup(w: u64) -> Num
-    requires { ⌜ 0 < w ⌝ }
+// The cell of a word by its packed number: its bytes, the first one last, after a 1.
+pub fn lookup(w: u64) -> Num
     ensures { λ r. ⌜ r ≡ asNum (findNum w wordMark packed) ⌝ }
 {
-    let k = (w % 151257 % 37) as usize;
-    let x = KEYS[k];
-    if x / 32 == w {
-        return Num::Is(Mark::WORD + (x % 32) as u32);
+    match w {
+        0x1_2d => Num::Is(Word::DASH),
+        0x1_73746f6c73 => Num::Is(Word::SLOTS),
+        0x1_676572 => Num::Is(Word::REG),
+        0x1_7373616c63 => Num::Is(Word::CLASS),
+        0x1_70756f7267 => Num::Is(Word::GROUP),
+        0x1_65756c6176 => Num::Is(Word::VALUE),
+        0x1_70756f726776 => Num::Is(Word::VGROUP),
+        0x1_6b636f6c62 => Num::Is(Word::BLOCK),
+        0x1_63637573 => Num::Is(Word::SUCC),
+        0x1_64657270 => Num::Is(Word::PRED),
+        0x1_6d61726170 => Num::Is(Word::PARAM),
+        0x1_706f => Num::Is(Word::OP),
+        0x1_626f6c63 => Num::Is(Word::CLOB),
+        0x1_74696465 => Num::Is(Word::EDIT),
+        0x1_666564 => Num::Is(Word::DEF),
+        0x1_657375 => Num::Is(Word::USE),
+        0x1_796c726165 => Num::Is(Word::EARLY),
+        0x1_67666564 => Num::Is(Word::DEFG),
+        0x1_67657375 => Num::Is(Word::USEG),
+        0x1_67796c726165 => Num::Is(Word::EARLYG),
+        0x1_6465786966 => Num::Is(Word::FIXED),
+        0x1_65766f6d => Num::Is(Word::MOVE),
+        0x1_74616d6572 => Num::Is(Word::REMAT),
+        0x1_6c6c69707365 => Num::Is(Word::ESPILL),
+        0x1_64616f6c657265 => Num::Is(Word::ERELOAD),
+        0x1_656e6f6e => Num::Is(Word::NONE),
+        _ => Num::Nothing,
     }
-    Num::Nothing
-}
-
-fn word(f: &[u8]) -> Num
-    ensures { λ r. ⌜ r ≡ asNum (wordOf (now (f .entry))) ⌝ }
-{
-    if 7 < f.len() {
-        return Num::Nothing;
-    }
-    lookup(packed(f))
-}
-
-// The cell that a field is.
-pub fn cell_of(f: &[u8]) -> Num
-    ensures { λ r. ⌜ r ≡ asNum (cellOf (now (f .entry))) ⌝ }
-{
-    if let Num::Is(v) = number(f) {
-        return Num::Is(v);
-    }
-    if let Num::Is(v) = marked(f) {
-        return Num::Is(v);
-    }
-    word(f)
 }

@@ -8,7 +8,7 @@ ghost use lib.Dec.{ltb};
 ghost use lib.ListN.{length};
 ghost use Rattle.rules.specs.Words.{slotsWord};
 ghost use Rattle.rules.specs.Rows.{kind};
-ghost use Rattle.table.specs.Layout.{tableLength};
+ghost use Rattle.table.specs.Layout.{cellsAt};
 ghost use Rattle.table.specs.Table.{Holds, Rising, Indexed};
 ghost use Rattle.table.specs.Rows.{rowIn};
 use bits::tables::read_u32;
@@ -29,7 +29,7 @@ fn earlier(t: &[u32], n: u32, i: u32, k: usize) -> bool
 }
 
 pub fn index(t: &mut [u32], n: u32)
-    requires { ⌜ tableLength ≤ length (now t) ⌝ }
+    requires { ⌜ cellsAt ≤ length (now t) ⌝ }
     ensures { λ _. ⌜ ((rs : List (List ℕ)) → Holds rs (now (t .entry)) → length rs ≡ n → Rising rs → Indexed rs (now (t .exit))) ⌝ }
 {
     let mut i: u32 = 0;

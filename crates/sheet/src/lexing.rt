@@ -2,15 +2,23 @@
 ghost use mathlib.Core.Path.{_≡_};
 ghost use mathlib.Core.List.{List};
 ghost use mathlib.Core.Option.{some};
-ghost use Prim.Native.Nat.{ℕ, _+_, _≤_};
+ghost use Prim.Native.Nat.{ℕ, _≤_};
 ghost use lib.ListN.{length, drop};
 ghost use Rattle.entity.specs.Limits.{byteLimit};
+ghost use Rattle.rules.specs.Cells.{reuseMark, wordOf};
 ghost use Rattle.rules.specs.Rows.{cellsOf};
-ghost use Rattle.sheet.specs.Answers.{upTo, fieldAt, asLexed};
+ghost use Rattle.sheet.specs.Answers.{fieldAt, asLexed, comma, crlf, ended, plainHead, numberFrom, fieldBy};
 ghost use Rattle.table.specs.Layout.{tableLength};
 ghost use Rattle.table.specs.Table.{Holds};
 use crate::fields::Num;
-use table::STARTS;
+use crate::fields::digits;
+use crate::fields::is_digit;
+use crate::fields::lookup;
+use crate::fields::mark;
+use crate::fields::packed;
+use bits::tables::read_u8;
+use entity::cells::Number;
+use table::CELLS;
 
 // A field's cell and where the field ends: at a comma, or at CR LF.
 pub enum Piece {
@@ -25,22 +33,57 @@ pub enum Lexed {
     Broken,
 }
 
-// The first index from at on where a comma or a CR stands, or the length.
-fn end(s: &[u8], at: usize) -> usize
-    requires { ⌜ at ≤ length (now s) ⌝ }
-    ensures { λ r. ⌜ r ≡ at + length (upTo (drop at (now (s .entry)))) ⌝ }
+// What ends a field of cell c at e, where u stands.
+fn ended(u: &[u8], c: u32, e: usize) -> Piece
+    ensures { λ r. ⌜ r ≡ ended (some c) (comma (now (u .entry))) (crlf (now (u .entry))) e ⌝ }
 {
-    let mut i = at;
-    while i < s.len() {
-        if s[i] == b',' {
-            return i;
-        }
-        if s[i] == b'\r' {
-            return i;
-        }
-        i += 1;
+    let b = read_u8(u, 0);
+    if b == b',' {
+        return Piece::More(c, e);
     }
-    i
+    if b != b'\r' {
+        return Piece::Unread;
+    }
+    if read_u8(u, 1) == b'\n' {
+        return Piece::Last(c, e);
+    }
+    Piece::Unread
+}
+
+// Are n digits at the head of t a number: at least one, and no leading zero?
+fn plain(t: &[u8], n: usize) -> bool
+    ensures { λ r. ⌜ r ≡ plainHead (now (t .entry)) n ⌝ }
+{
+    (1 <= n) & ((n == 1) | (read_u8(t, 0) != b'0'))
+}
+
+// The number at at, after a mark of cell base.
+fn number(s: &[u8], at: usize, base: u32) -> Piece
+    requires { ⌜ at ≤ length (now s) ⌝ }
+    requires { ⌜ base ≤ reuseMark ⌝ }
+    ensures { λ r. ⌜ r ≡ fieldBy (numberFrom base) (drop at (now (s .entry))) at ⌝ }
+{
+    let t = &s[at..];
+    let d = digits(t);
+    if !plain(t, d.1) {
+        return Piece::Unread;
+    }
+    let e = at + d.1;
+    ended(&s[e..], base + d.0, e)
+}
+
+fn word(s: &[u8], at: usize) -> Piece
+    requires { ⌜ at ≤ length (now s) ⌝ }
+    ensures { λ r. ⌜ r ≡ fieldBy wordOf (drop at (now (s .entry))) at ⌝ }
+{
+    let p = packed(&s[at..]);
+    match lookup(p.0) {
+        Num::Is(c) => {
+            let e = at + p.1;
+            ended(&s[e..], c, e)
+        }
+        Num::Nothing => Piece::Unread,
+    }
 }
 
 // The field that starts at at, and what ends it.
@@ -48,37 +91,32 @@ fn field(s: &[u8], at: usize) -> Piece
     requires { ⌜ at ≤ length (now s) ⌝ }
     ensures { λ r. ⌜ r ≡ fieldAt (drop at (now (s .entry))) at ⌝ }
 {
-    let e = end(s, at);
-    match crate::fields::cell_of(&s[at..e]) {
-        Num::Is(c) => {
-            if s.len() <= e {
-                return Piece::Unread;
-            }
-            if s[e] == b',' {
-                return Piece::More(c, e);
-            }
-            if s.len() <= e + 1 {
-                return Piece::Unread;
-            }
-            if s[e + 1] == b'\n' {
-                return Piece::Last(c, e);
-            }
-            Piece::Unread
-        }
-        Num::Nothing => Piece::Unread,
+    if s.len() <= at {
+        return Piece::Unread;
     }
+    let mut from = at;
+    let mut base: u32 = 0;
+    if let Num::Is(k) = mark(s[at]) {
+        from = at + 1;
+        base = k * Number::LIMIT;
+    }
+    if is_digit(read_u8(s, from)) {
+        return number(s, from, base);
+    }
+    word(s, at)
 }
 
-// The whole sheet: its cells from 0 on, one after the other, and from STARTS on where each row starts, with the end of the last.
+// The whole sheet: its cells from CELLS on, one after the other, and from the table's end downward where each row starts, with the end of the last.
 pub fn rows(s: &[u8], t: &mut [u32]) -> Lexed
-    requires { ⌜ tableLength ≤ length (now t) ⌝ }
+    requires { ⌜ tableLength (length (now s)) ≤ length (now t) ⌝ }
     requires { ⌜ length (now s) ≤ byteLimit ⌝ }
     ensures { λ r. ⌜ r ≡ asLexed (cellsOf (now (s .entry))) ⌝ }
     ensures { λ _. ⌜ ((rs : List (List ℕ)) → cellsOf (now (s .entry)) ≡ some rs → Holds rs (now (t .exit))) ⌝ }
 {
-    t[STARTS] = 0;
+    let last = t.len() - 1;
+    t[last] = CELLS as u32;
     let mut at: usize = 0;
-    let mut n: usize = 0;
+    let mut n: usize = CELLS;
     let mut k: usize = 0;
     let mut open: usize = 0;
     while at < s.len() {
@@ -93,7 +131,7 @@ pub fn rows(s: &[u8], t: &mut [u32]) -> Lexed
                 t[n] = c;
                 n += 1;
                 k += 1;
-                t[STARTS + k] = n as u32;
+                t[last - k] = n as u32;
                 at = e + 2;
                 open = 0;
             }

@@ -13,7 +13,7 @@ ghost use Rattle.table.specs.Layout.{tableLength};
 ghost use Rattle.table.specs.Table.{Indexed};
 use entity::numbers::SheetByte;
 use lexing::Lexed;
-use table::LENGTH;
+use table::index::room;
 
 mod fields;
 mod grammar;
@@ -25,10 +25,10 @@ mod shapes;
 const BYTES: usize = SheetByte::LIMIT as usize;
 
 pub fn read(sheet: &[u8], t: &mut [u32]) -> bool
-    ensures { λ r. ⌜ r ≡ (leb tableLength (length (now (t .entry))) && isSome (rowsOf (now (sheet .entry)))) ⌝ }
-    ensures { λ _. ⌜ ((rs : List (List ℕ)) → rowsOf (now (sheet .entry)) ≡ some rs → tableLength ≤ length (now (t .entry)) → Indexed rs (now (t .exit))) ⌝ }
+    ensures { λ r. ⌜ r ≡ (leb (tableLength (length (now (sheet .entry)))) (length (now (t .entry))) && isSome (rowsOf (now (sheet .entry)))) ⌝ }
+    ensures { λ _. ⌜ ((rs : List (List ℕ)) → rowsOf (now (sheet .entry)) ≡ some rs → tableLength (length (now (sheet .entry))) ≤ length (now (t .entry)) → Indexed rs (now (t .exit))) ⌝ }
 {
-    if t.len() < LENGTH {
+    if t.len() < room(sheet.len()) {
         return false;
     }
     if BYTES < sheet.len() {

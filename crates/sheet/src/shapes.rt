@@ -1,9 +1,13 @@
 // A row by itself: what a field may be, and which fields may stand after a kind's word. How rows follow each other is left to grammar.
 ghost use mathlib.Core.Path.{_≡_};
+ghost use mathlib.Core.Bool.{_&&_};
 ghost use mathlib.Core.List.{[], _∷_};
+ghost use Prim.Native.Nat.{_≤_};
+ghost use lib.Dec.{leb};
+ghost use lib.ListN.{length, getD};
 ghost use Rattle.laws.specs.Lists.{all};
 ghost use Rattle.rules.specs.Rows.{fieldOk, number, flag, dash, numberOrDash, place, constraint};
-ghost use Rattle.rules.specs.Rows.{fits, end, list, list₁, _▸_, opShape, editShape, rowOk};
+ghost use Rattle.rules.specs.Rows.{fits, end, _▸_, opShape, editShape, rowOk};
 ghost use Rattle.sheet.specs.Grammar.{plainOp, fixedOp, moveEdit, rematEdit, pairEdit, noneEdit, fitsKind};
 use entity::cells::Mark;
 use entity::cells::Number;
@@ -58,37 +62,32 @@ fn numbers(cs: &[u32]) -> bool
     true
 }
 
+// At least n numbers: `group`, `vgroup`, `succ`, `pred` and `clob`.
+fn listed(cs: &[u32], n: usize) -> bool
+    requires { ⌜ 1 ≤ n ⌝ }
+    ensures { λ r. ⌜ r ≡ (leb n (length (now (cs .entry))) && all (fieldOk number) (now (cs .entry))) ⌝ }
+{
+    if cs.len() < n {
+        return false;
+    }
+    number(cs[0]) & numbers(&cs[1..])
+}
+
+// At least n numbers, the second a flag: `reg` and `class`.
+fn flagged(cs: &[u32], n: usize) -> bool
+    requires { ⌜ 2 ≤ n ⌝ }
+    ensures { λ r. ⌜ r ≡ (leb n (length (now (cs .entry))) && all (fieldOk number) (now (cs .entry)) && fieldOk flag (getD (now (cs .entry)) 1 0)) ⌝ }
+{
+    if cs.len() < n {
+        return false;
+    }
+    number(cs[0]) & flag(cs[1]) & numbers(&cs[2..])
+}
+
 fn slots(cs: &[u32]) -> bool
     ensures { λ r. ⌜ r ≡ fits (number ▸ end) (now (cs .entry)) ⌝ }
 {
     if cs.len() == 1 { number(cs[0]) } else { false }
-}
-
-fn reg(cs: &[u32]) -> bool
-    ensures { λ r. ⌜ r ≡ fits (number ▸ flag ▸ list₁) (now (cs .entry)) ⌝ }
-{
-    if cs.len() < 3 {
-        return false;
-    }
-    number(cs[0]) & flag(cs[1]) & numbers(&cs[2..])
-}
-
-fn class(cs: &[u32]) -> bool
-    ensures { λ r. ⌜ r ≡ fits (number ▸ flag ▸ list) (now (cs .entry)) ⌝ }
-{
-    if cs.len() < 2 {
-        return false;
-    }
-    number(cs[0]) & flag(cs[1]) & numbers(&cs[2..])
-}
-
-fn group(cs: &[u32]) -> bool
-    ensures { λ r. ⌜ r ≡ fits (number ▸ number ▸ list₁) (now (cs .entry)) ⌝ }
-{
-    if cs.len() < 3 {
-        return false;
-    }
-    number(cs[0]) & number(cs[1]) & numbers(&cs[2..])
 }
 
 fn value(cs: &[u32]) -> bool
@@ -109,16 +108,6 @@ fn block(cs: &[u32]) -> bool
     } else {
         false
     }
-}
-
-// `vgroup`, `succ`, `pred` and `clob`.
-fn listed(cs: &[u32]) -> bool
-    ensures { λ r. ⌜ r ≡ fits (number ▸ list₁) (now (cs .entry)) ⌝ }
-{
-    if cs.len() < 2 {
-        return false;
-    }
-    number(cs[0]) & numbers(&cs[1..])
 }
 
 fn param(cs: &[u32]) -> bool
@@ -210,17 +199,17 @@ fn after(kind: u32, cs: &[u32]) -> bool
 {
     match kind {
         Word::SLOTS => slots(cs),
-        Word::REG => reg(cs),
-        Word::CLASS => class(cs),
-        Word::GROUP => group(cs),
+        Word::REG => flagged(cs, 3),
+        Word::CLASS => flagged(cs, 2),
+        Word::GROUP => listed(cs, 3),
         Word::VALUE => value(cs),
-        Word::VGROUP => listed(cs),
+        Word::VGROUP => listed(cs, 2),
         Word::BLOCK => block(cs),
-        Word::SUCC => listed(cs),
-        Word::PRED => listed(cs),
+        Word::SUCC => listed(cs, 2),
+        Word::PRED => listed(cs, 2),
         Word::PARAM => param(cs),
         Word::OP => op(cs),
-        Word::CLOB => listed(cs),
+        Word::CLOB => listed(cs, 2),
         Word::EDIT => edit(cs),
         _ => false,
     }

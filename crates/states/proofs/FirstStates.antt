@@ -2,9 +2,10 @@
 use mathlib.Core.Path.{_≡_, refl, sym, ap, _∙_}
 use mathlib.Core.Bool.{Bool, true, false, cond, _&&_}
 use mathlib.Core.List.{List}
-use Prim.Native.Nat.{ℕ, _+_, _-_, _≤_, _<_}
+use Prim.Native.Nat.{ℕ, _+_, _≤_, _<_}
 use native.Mathlib.Omega.{arith}
 use lib.ListN.{length, getD, replicate, length-map}
+use lib.Dec.{leb}
 use Rattle.entity.specs.Limits.{regLimit, slotLimit}
 use borrow.Author.Tests.{le-leb, lt-leb}
 use Rattle.rules.specs.Sheet.{Sheet}
@@ -19,6 +20,13 @@ use Rattle.states.proofs.Spans.{Span, section-long, section-at, section
 use Rattle.states.proofs.Cells.{known-is}
 
 module _ (rec : List ℕ) (sole : Bool) (b v x : ℕ) where
+  pub handed-none : v ≡ absent → absent ≡ handedIn rec sole b v
+  handed-none e = rw e (go (sole && leb b (definedIn rec absent)))
+    where
+      go : (t : Bool) → absent ≡ cond t absent absent
+      go true = refl
+      go false = refl
+
   pub handed-yes : sole ≡ true → x ≡ definedIn rec v → b ≤ x → absent ≡ handedIn rec sole b v
   handed-yes e d h = rw (e, ← d, le-leb b x h)
 

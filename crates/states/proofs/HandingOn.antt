@@ -3,7 +3,7 @@ use mathlib.Core.Path.{_≡_, refl, sym, ap, ap₂, _∙_}
 use mathlib.Core.Bool.{Bool, true, false, cond, _&&_, _||_, or-comm}
 use mathlib.Core.List.{List, [], _∷_, _++_, flatMap}
 use mathlib.Core.Option.{Option, none, some, Option·elim}
-use Prim.Native.Nat.{ℕ, zero, suc, _+_, _-_, _*_, _≤_, _<_}
+use Prim.Native.Nat.{ℕ, zero, suc, _+_, _≤_, _<_}
 use native.Mathlib.Omega.{arith}
 use lib.ListN.{length, getD, set, take}
 use lib.Seq.{take-all}
@@ -15,20 +15,19 @@ use Rattle.laws.specs.Fold.{run}
 use Rattle.laws.specs.Lists.{all, any, keep, isIn}
 use Rattle.table.specs.Sheet.{sheetIn}
 use Rattle.table.specs.Index.{Ready}
-use Rattle.rules.proofs.Refusals.{in-limits, all-named, each-named}
+use Rattle.rules.proofs.Refusals.{all-named, each-named}
 use Rattle.rules.specs.Accept.{blockExists}
 use Rattle.laws.proofs.Words.{has-wordsOf}
 use Rattle.bits.specs.Sets.{has, setOf, setLimit}
 use Rattle.bits.specs.declared.sets.NumberSet.{NumberSet}
-use Rattle.entity.specs.Limits.{blockLimit}
 use Rattle.rules.specs.Sheet.{Sheet, ListRow, listAt, blockCount, succsOf}
 use Rattle.rules.specs.Record.{Record, Known}
 use Rattle.rules.specs.Forward.{Handed, skips, handTo, handOn, firstState, sameKnown}
 use Rattle.record.specs.Flat.{recordIn}
-use Rattle.states.specs.Layout.{knownSize}
-use Rattle.states.specs.States.{Roomy, knownAt, isSet, stateIn, Sets, soleIn, metIn, Meets, Lies}
+use Rattle.states.specs.Layout.{stateAt}
+use Rattle.states.specs.States.{knownAt, isSet, stateIn, Sets, soleIn, metIn, Meets, Lies}
 use Rattle.states.proofs.Spans.{run-take}
-use Rattle.states.proofs.Cells.{states-at}
+use Rattle.states.proofs.Cells.{roomy-same, states-at}
 
 -- one more block waits
 pub waits : (b : ℕ) (w w′ : NumberSet) (l : List ℕ) → w′ ≡ setOf (λ k. has w k || eqb k b) → ((c : ℕ) → c < setLimit → has w c ≡ isIn c l)
@@ -42,43 +41,40 @@ pub waits-below : (n b : ℕ) (l : List ℕ) → b < n → ((c : ℕ) → n ≤ 
 unfolding isIn any
 waits-below n b l h f c u = rw (ne-eqb c b (λ q. omega arith)) (f c u)
 
-module _ (sh : Sheet) (n a b : ℕ) (rec s s′ : List ℕ) (w w′ : NumberSet) (h : Handed) (few : n ≤ blockLimit) (below : b < n) (lies : Lies n s w h) where
+module _ (sh : Sheet) (n a b : ℕ) (rec s s′ : List ℕ) (w w′ : NumberSet) (h : Handed) (below : b < n) (lies : Lies n s w h) where
   known : getD (h .states) b none ≡ stateIn s b
   known = ap (λ (x : List (Option Known)). getD x b none) (sym (lies .are)) ∙ states-at s n b below
 
-  pub hand-first : (sole : Bool) → isSet s b ≡ false → (Roomy s → Sets s s′ b (firstState sh (soleIn sole b) (recordIn rec)))
+  pub hand-first : (sole : Bool) → isSet s b ≡ false → Sets s s′ b (firstState sh (soleIn sole b) (recordIn rec))
       → firstState sh (soleIn sole b) (recordIn rec) ≡ firstState sh (succsOf sh a) (recordIn rec) → w′ ≡ setOf (λ k. has w k || eqb k b)
       → Lies n s′ w′ (handTo sh a (recordIn rec) h b)
   unfolding handTo stateIn Option·elim
-  hand-first sole e t first v =
-      let x : getD (h .states) b none ≡ none = known ∙ ap (λ (z : Bool). cond z (some (knownAt s (b * knownSize))) none) e in
-      let sets = t (lies .room) in
-      let l : length s′ ≡ length s = sets .long in
+  hand-first sole e sets first v =
+      let x : getD (h .states) b none ≡ none = known ∙ ap (λ (z : Bool). cond z (some (knownAt s (stateAt b))) none) e in
       rw x (record {
-        room = let r : Roomy s = lies .room in omega arith;
-        are = sets .are n few ∙ ap₂ (λ (y : List (Option Known)) (k : Known). set y b (some k)) (lies .are) first;
+        room = roomy-same (sets .long) (lies .room);
+        are = sets .are n (lies .room) ∙ ap₂ (λ (y : List (Option Known)) (k : Known). set y b (some k)) (lies .are) first;
         wait = waits b w w′ (h .waiting) v (lies .wait);
         below = waits-below n b (h .waiting) below (lies .below);
       })
 
-  pub hand-met : (r : Bool) → isSet s b ≡ true → (Roomy s → isSet s b ≡ true → Meets sh rec s s′ b r)
+  pub hand-met : (r : Bool) → isSet s b ≡ true → (isSet s b ≡ true → Meets sh rec s s′ b r)
       → (r ≡ true → w′ ≡ setOf (λ k. has w k || eqb k b)) → (r ≡ false → w′ ≡ w) → Lies n s′ w′ (handTo sh a (recordIn rec) h b)
   unfolding handTo stateIn Option·elim
   hand-met r e t y′ n′ =
-      let x : getD (h .states) b none ≡ some (knownAt s (b * knownSize)) = known ∙ ap (λ (z : Bool). cond z (some (knownAt s (b * knownSize))) none) e in
-      let m = t (lies .room) e in
-      let l : length s′ ≡ length s = m .sets .long in
+      let x : getD (h .states) b none ≡ some (knownAt s (stateAt b)) = known ∙ ap (λ (z : Bool). cond z (some (knownAt s (stateAt b))) none) e in
+      let m = t e in
       rw x (record {
-        room = let q : Roomy s = lies .room in omega arith;
-        are = m .sets .are n few ∙ ap (λ (y : List (Option Known)). set y b (some (metIn sh rec s b))) (lies .are);
+        room = roomy-same (m .sets .long) (lies .room);
+        are = m .sets .are n (lies .room) ∙ ap (λ (y : List (Option Known)). set y b (some (metIn sh rec s b))) (lies .are);
         wait = by-bool r
             (λ y.
-            let z : sameKnown sh (knownAt s (b * knownSize)) (metIn sh rec s b) ≡ false = not-true (sameKnown sh (knownAt s (b * knownSize)) (metIn sh rec s b)) (sym (m .went) ∙ y) in
+            let z : sameKnown sh (knownAt s (stateAt b)) (metIn sh rec s b) ≡ false = not-true (sameKnown sh (knownAt s (stateAt b)) (metIn sh rec s b)) (sym (m .went) ∙ y) in
             rw z (waits b w w′ (h .waiting) (y′ y) (lies .wait)))
             (λ y.
-            let z : sameKnown sh (knownAt s (b * knownSize)) (metIn sh rec s b) ≡ true = not-false (sameKnown sh (knownAt s (b * knownSize)) (metIn sh rec s b)) (sym (m .went) ∙ y) in
+            let z : sameKnown sh (knownAt s (stateAt b)) (metIn sh rec s b) ≡ true = not-false (sameKnown sh (knownAt s (stateAt b)) (metIn sh rec s b)) (sym (m .went) ∙ y) in
             rw z (λ c u. ap (λ (q : NumberSet). has q c) (n′ y) ∙ lies .wait c u));
-        below = go (sameKnown sh (knownAt s (b * knownSize)) (metIn sh rec s b));
+        below = go (sameKnown sh (knownAt s (stateAt b)) (metIn sh rec s b));
       })
     where
       go : (t : Bool) (c : ℕ) → n ≤ c → isIn c (cond t (h .waiting) (b ∷ h .waiting)) ≡ false
@@ -122,14 +118,14 @@ succs-exist t g a k h =
 
 pub hand-next : (t : List ℕ) (a k : ℕ) (l rec s s′ : List ℕ) (w w′ : NumberSet) (h : Handed) → Ready t → l ≡ succsOf (sheetIn t) a → k < length l
     → Lies (blockCount (sheetIn t)) s w (run (handTo (sheetIn t) a (recordIn rec)) h (take k l))
-    → ((sh : Sheet) (n a : ℕ) (h : Handed) → n ≤ blockLimit → getD l k 0 < n
+    → ((sh : Sheet) (n a : ℕ) (h : Handed) → getD l k 0 < n
     → firstState sh (soleIn (eqb (length l) 1) (getD l k 0)) (recordIn rec) ≡ firstState sh (succsOf sh a) (recordIn rec)
     → Lies n s w h → Lies n s′ w′ (handTo sh a (recordIn rec) h (getD l k 0)))
     → Lies (blockCount (sheetIn t)) s′ w′ (run (handTo (sheetIn t) a (recordIn rec)) h (take (k + 1) l))
 hand-next t a k l rec s s′ w w′ h g e u lies step =
     let sh = sheetIn t in
     rw (run-take (handTo sh a (recordIn rec)) 0 h l k u)
-    (step sh (blockCount sh) a (run (handTo sh a (recordIn rec)) h (take k l)) (in-limits sh (g .limits) .few-blocks)
+    (step sh (blockCount sh) a (run (handTo sh a (recordIn rec)) h (take k l))
     (rw e (succs-exist t g a k (rw e at u))) (one-of sh (recordIn rec) l k u ∙ ap (λ (x : List ℕ). firstState sh x (recordIn rec)) e) lies)
 
 pub hand-end : (t : List ℕ) (a k : ℕ) (l rec s : List ℕ) (w : NumberSet) (h : Handed) → l ≡ succsOf (sheetIn t) a → length l ≤ k

@@ -1,12 +1,12 @@
 -- A later arrival: `meet` of src/handed.rt leaves of a state what the record knows too, and tells if something went (`Meets`). Assumes nothing.
 use mathlib.Core.Path.{_≡_, refl, sym, ap, ap₂, _∙_}
-use mathlib.Core.Bool.{Bool, true, cond, not, _||_}
+use mathlib.Core.Bool.{Bool, true, cond, not, _||_, false}
 use mathlib.Core.List.{List, [], _∷_}
-use Prim.Native.Nat.{ℕ, _+_, _-_, _*_, _≤_, _<_}
+use Prim.Native.Nat.{ℕ, _+_, _≤_, _<_}
 use native.Mathlib.Omega.{arith}
 use lib.ListN.{length, getD, set}
-use lib.Dec.{eqb, ltb}
-use Rattle.entity.specs.Limits.{blockLimit, regLimit, slotLimit}
+use lib.Dec.{eqb}
+use Rattle.entity.specs.Limits.{regLimit, slotLimit}
 use borrow.Author.Tests.{eq-eqb, eqb-true}
 use Rattle.laws.proofs.Cases.{by-bool}
 use Rattle.table.proofs.Loops.{never, and-left, and-right}
@@ -16,10 +16,10 @@ use Rattle.rules.specs.Record.{Known, absent}
 use Rattle.rules.specs.Forward.{meet, sameKnown}
 use Rattle.record.specs.Layout.{heldAt, storedAt}
 use Rattle.record.specs.Flat.{section, recordIn, Long}
-use Rattle.states.specs.Layout.{flagsAt, knownSize}
-use Rattle.states.specs.States.{Roomy, knownAt, isSet, metIn, Meets}
+use Rattle.states.specs.Layout.{knownSize, stateAt}
+use Rattle.states.specs.States.{knownAt, isSet, metIn, Meets, fits}
 use Rattle.states.proofs.Spans.{Span, span-store, Kept, kept-next, section-long, section-at, zip-long, zip-at}
-use Rattle.states.proofs.Cells.{known-is, known-same, known-at, set-miss, sets, stored-sets}
+use Rattle.states.proofs.Cells.{known-is, known-same, known-at, stored-sets, fits-room, set-fits}
 
 -- number j of the state at `at`, if the record knows it too
 abbrev pub metAt : List ℕ → List ℕ → ℕ → ℕ → ℕ
@@ -96,29 +96,30 @@ met-next rec s at i s′ went l went′ p k h e w =
     (span-store at (metAt rec s at) s i s′ l p z h, kept-next (metAt rec s at) (λ j. getD s (at + j) 0) i went went′ k y)
 
 -- block b's state loses what the record does not know
-module _ (sh : Sheet) (rec s s′ : List ℕ) (b : ℕ) (went : Bool) (long : Long rec) (room : Roomy s) where
-  pub met : b < blockLimit → isSet s b ≡ true → Span (b * knownSize) (metAt rec s (b * knownSize)) s knownSize s′ → Kept (metAt rec s (b * knownSize)) (λ j. getD s (b * knownSize + j) 0) knownSize went
+module _ (sh : Sheet) (rec s s′ : List ℕ) (b : ℕ) (went : Bool) (long : Long rec) where
+  pub met : isSet s b ≡ true → Span (stateAt b) (metAt rec s (stateAt b)) s knownSize s′ → Kept (metAt rec s (stateAt b)) (λ j. getD s (stateAt b + j) 0) knownSize went
       → Meets sh rec s s′ b went
   unfolding isSet
-  met h e p k =
+  met e p k =
+      let fit : fits s b ≡ true = set-fits s b e in
+      let room : stateAt (b + 1) ≤ length s = fits-room s b fit in
       let m : length s′ ≡ length s = p .long in
-      let at = b * knownSize in
-      let is : knownAt s′ (b * knownSize) ≡ metIn sh rec s b = met-known s s′ (b * knownSize) (omega arith) sh rec long p in
+      let is : knownAt s′ (stateAt b) ≡ metIn sh rec s b = met-known s s′ (stateAt b) (omega arith) sh rec long p in
       record {
-        sets = stored-sets (metAt rec s (b * knownSize)) s s s′ b (metIn sh rec s b) h room refl
-            (eqb-true (getD s (flagsAt + b) 0) 1 (and-right (ltb b blockLimit) (eqb (getD s (flagsAt + b) 0) 1) e)) (λ j d. refl) p is;
+        sets = stored-sets (metAt rec s (stateAt b)) s s s′ b (metIn sh rec s b) fit refl
+            (eqb-true (getD s b 0) 1 (and-right (fits s b) (eqb (getD s b 0) 1) e)) (λ j d. refl) p is;
         went = by-bool went
             (λ t.
-            by-bool (sameKnown sh (knownAt s (b * knownSize)) (metIn sh rec s b))
+            by-bool (sameKnown sh (knownAt s (stateAt b)) (metIn sh rec s b))
             (λ y.
             absurd (k .yes t (λ j u.
             sym (p .done j u)
-            ∙ sym (known-at s s′ (b * knownSize) (omega arith) (omega arith) (known-eq sh (knownAt s (b * knownSize)) (metIn sh rec s b) y ∙ sym is) j u))))
+            ∙ sym (known-at s s′ (stateAt b) (omega arith) (omega arith) (known-eq sh (knownAt s (stateAt b)) (metIn sh rec s b) y ∙ sym is) j u))))
             (λ n. t ∙ sym (ap not n)))
             (λ f.
-            let q : knownAt s′ (b * knownSize) ≡ knownAt s (b * knownSize) = known-same s s′ (b * knownSize) m (omega arith) (λ j u. p .done j u ∙ k .no f j u) in
-            f ∙ sym (ap not (ap (sameKnown sh (knownAt s (b * knownSize))) (sym is ∙ q) ∙ known-refl sh (knownAt s (b * knownSize)))));
+            let q : knownAt s′ (stateAt b) ≡ knownAt s (stateAt b) = known-same s s′ (stateAt b) m (omega arith) (λ j u. p .done j u ∙ k .no f j u) in
+            f ∙ sym (ap not (ap (sameKnown sh (knownAt s (stateAt b))) (sym is ∙ q) ∙ known-refl sh (knownAt s (stateAt b)))));
       }
 
-  pub unmet : blockLimit ≤ b → isSet s b ≡ true → Meets sh rec s s′ b went
-  unmet h e = never (set-miss s b h ∙ e)
+  pub unmet : fits s b ≡ false → isSet s b ≡ true → Meets sh rec s s′ b went
+  unmet h e = never (sym h ∙ set-fits s b e)

@@ -1,41 +1,40 @@
 -- The states that the levels start with: src/starts.rt does what the rules `forwardStart` and `globalStart` say. Assumes nothing.
 use mathlib.Core.Path.{_≡_, refl, sym, ap, _∙_}
 use mathlib.Core.Bool.{Bool, true, false, cond, _&&_, _||_, and-false, or-false}
-use mathlib.Core.List.{List, [], _∷_, map}
+use mathlib.Core.List.{List, map}
 use mathlib.Core.Option.{Option, none, some}
-use Prim.Native.Nat.{ℕ, _+_, _*_, _≤_, _<_}
+use Prim.Native.Nat.{ℕ, _+_, _≤_, _<_}
 use native.Mathlib.Omega.{arith}
 use lib.ListN.{length, getD, set}
 use lib.Seq.{ext-getD, getD-set-same, getD-set-other}
 use lib.Dec.{eqb, leb, ltb}
-use borrow.Author.Tests.{lt-ltb, le-ltb, eq-eqb, ne-eqb, not-true}
-use Rattle.laws.proofs.Cases.{by-eq, by-lt, eqb-same}
+use borrow.Author.Tests.{lt-ltb, le-ltb, eq-eqb, ne-eqb}
+use Rattle.laws.proofs.Cases.{by-eq, by-lt}
 use Rattle.laws.proofs.Words.{has-wordsOf}
 use Rattle.laws.specs.Lists.{any, isIn, from}
 use Rattle.laws.proofs.Lists.{keep-in}
 use Rattle.bits.specs.Sets.{has, setOf}
 use Rattle.bits.specs.declared.sets.NumberSet.{NumberSet}
-use Rattle.entity.specs.Limits.{blockLimit}
 use Rattle.rules.specs.Sheet.{Sheet, blockCount, predsOf}
 use Rattle.rules.specs.Accept.{isEntry}
 use Rattle.rules.specs.Record.{Known, nothing}
-use Rattle.rules.specs.Forward.{Handed, beginsEmpty, forwardStart, globalStart}
+use Rattle.rules.specs.Forward.{beginsEmpty, forwardStart, globalStart}
 use Rattle.table.proofs.Sheets.{members-long, members-at}
-use Rattle.states.specs.Layout.{knownSize}
-use Rattle.states.specs.States.{Roomy, knownAt, isSet, stateIn, statesIn, Sets, Lies, Unset, Started, Waits}
-use Rattle.states.proofs.Cells.{states-long, states-at}
+use Rattle.states.specs.Layout.{stateAt}
+use Rattle.states.specs.States.{Roomy, knownAt, stateIn, statesIn, Sets, Lies, Unset, Started, Waits}
+use Rattle.states.proofs.Cells.{roomy-same, states-long, states-at}
 
 -- a block's state, where one is set
-pub sets-at : (s s′ : List ℕ) (b : ℕ) (k : Known) → Sets s s′ b k → (c : ℕ) → c < blockLimit → stateIn s′ c ≡ cond (eqb c b) (some k) (stateIn s c)
-sets-at s s′ b k p c h =
-    let m : length (statesIn s blockLimit) ≡ blockLimit = states-long s blockLimit in
-    sym (states-at s′ blockLimit c h) ∙ ap (λ (l : List (Option Known)). getD l c none) (p .are blockLimit (omega arith))
+pub sets-at : {n : ℕ} (s s′ : List ℕ) (b : ℕ) (k : Known) → Roomy n s → Sets s s′ b k → (c : ℕ) → c < n → stateIn s′ c ≡ cond (eqb c b) (some k) (stateIn s c)
+sets-at {n} s s′ b k r p c h =
+    let m : length (statesIn s n) ≡ n = states-long s n in
+    sym (states-at s′ n c h) ∙ ap (λ (l : List (Option Known)). getD l c none) (p .are n r)
     ∙ by-eq c b
     (λ q.
-    let x : getD (set (statesIn s blockLimit) b (some k)) c none ≡ some k = rw q (getD-set-same (statesIn s blockLimit) b (some k) none (omega arith)) in
+    let x : getD (set (statesIn s n) b (some k)) c none ≡ some k = rw q (getD-set-same (statesIn s n) b (some k) none (omega arith)) in
     x ∙ sym (ap (λ (t : Bool). cond t (some k) (stateIn s c)) (eq-eqb c b q)))
     (λ d.
-    getD-set-other (statesIn s blockLimit) b c (some k) none d ∙ states-at s blockLimit c h
+    getD-set-other (statesIn s n) b c (some k) none d ∙ states-at s n c h
     ∙ sym (ap (λ (t : Bool). cond t (some k) (stateIn s c)) (ne-eqb c b d)))
 
 -- the test of a block below i + 1
@@ -44,22 +43,21 @@ next-at f i c d =
     by-lt c i (λ h. rw (lt-ltb c i h, lt-ltb c (i + 1) (omega arith))) (λ h. rw (le-ltb c i h, le-ltb c (i + 1) (omega arith)))
 
 module _ (f : ℕ → Bool) where
-  pub start-none : (s : List ℕ) → Unset s → Started f s 0
+  pub start-none : (n : ℕ) (s : List ℕ) → Unset n s → Started f n s 0
   unfolding stateIn
-  start-none s p =
+  start-none n s p =
       record {
         room = p .room;
-        are = λ b h. ap (λ (t : Bool). cond t (some (knownAt s (b * knownSize))) none) (p .none b) ∙ sym (ap (λ (t : Bool). cond (t && f b) (some nothing) none) (le-ltb b 0 (omega arith)));
+        are = λ b h. ap (λ (t : Bool). cond t (some (knownAt s (stateAt b))) none) (p .none b) ∙ sym (ap (λ (t : Bool). cond (t && f b) (some nothing) none) (le-ltb b 0 (omega arith)));
       }
 
-  module _ (i : ℕ) (s s′ : List ℕ) (p : Started f s i) where
-    pub start-yes : f i ≡ true → Sets s s′ i nothing → Started f s′ (i + 1)
+  module _ (n i : ℕ) (s s′ : List ℕ) (p : Started f n s i) where
+    pub start-yes : f i ≡ true → Sets s s′ i nothing → Started f n s′ (i + 1)
     start-yes e q =
-        let l : length s′ ≡ length s = q .long in
         record {
-          room = let r : Roomy s = p .room in omega arith;
+          room = roomy-same (q .long) (p .room);
           are = λ c h.
-              sets-at s s′ i nothing q c h
+              sets-at s s′ i nothing (p .room) q c h
               ∙ by-eq c i
               (λ z.
               let y : (ltb c (i + 1) && f c) ≡ true = rw (z, lt-ltb i (i + 1) (omega arith)) e in
@@ -69,7 +67,7 @@ module _ (f : ℕ → Bool) where
               ∙ sym (ap (λ (t : Bool). cond t (some nothing) none) (next-at f i c d)));
         }
 
-    pub start-no : f i ≡ false → Started f s (i + 1)
+    pub start-no : f i ≡ false → Started f n s (i + 1)
     start-no e =
         record {
           room = p .room;
@@ -79,8 +77,8 @@ module _ (f : ℕ → Bool) where
               (by-eq c i (λ z. rw (z, e, and-false (ltb i i), and-false (ltb i (i + 1)))) (λ d. sym (next-at f i c d)));
         }
 
-  pub start-end : (n : ℕ) (s : List ℕ) → n ≤ blockLimit → Started f s n → statesIn s n ≡ map (λ b. cond (f b) (some nothing) none) (from 0 n)
-  start-end n s h p =
+  pub start-end : (n : ℕ) (s : List ℕ) → Started f n s n → statesIn s n ≡ map (λ b. cond (f b) (some nothing) none) (from 0 n)
+  start-end n s p =
       ext-getD none (statesIn s n) (map (λ b. cond (f b) (some nothing) none) (from 0 n)) (states-long s n ∙ sym (members-long (λ b. cond (f b) (some nothing) none) n))
       (λ c u.
       let l : length (statesIn s n) ≡ n = states-long s n in
@@ -107,23 +105,23 @@ module _ (f : ℕ → Bool) where
 
 -- ---- the levels' starts
 
-module _ (sh : Sheet) (few : blockCount sh ≤ blockLimit) (s : List ℕ) (w : NumberSet) where
-  pub forward-starts : Started (beginsEmpty sh) s (blockCount sh) → w ≡ setOf (λ k. false) → Lies (blockCount sh) s w (forwardStart sh)
+module _ (sh : Sheet) (s : List ℕ) (w : NumberSet) where
+  pub forward-starts : Started (beginsEmpty sh) (blockCount sh) s (blockCount sh) → w ≡ setOf (λ k. false) → Lies (blockCount sh) s w (forwardStart sh)
   unfolding forwardStart isIn any
   forward-starts p e =
       record {
         room = p .room;
-        are = start-end (beginsEmpty sh) (blockCount sh) s few p;
+        are = start-end (beginsEmpty sh) (blockCount sh) s p;
         wait = λ c u. ap (λ (x : NumberSet). has x c) e ∙ has-wordsOf 4 (λ k. false) c u;
         below = λ c u. refl;
       }
 
-  pub global-starts : Started (isEntry sh) s (blockCount sh) → Waits (isEntry sh) w (blockCount sh) → Lies (blockCount sh) s w (globalStart sh)
+  pub global-starts : Started (isEntry sh) (blockCount sh) s (blockCount sh) → Waits (isEntry sh) w (blockCount sh) → Lies (blockCount sh) s w (globalStart sh)
   unfolding globalStart
   global-starts p q =
       record {
         room = p .room;
-        are = start-end (isEntry sh) (blockCount sh) s few p;
+        are = start-end (isEntry sh) (blockCount sh) s p;
         wait = λ c u. q c u ∙ sym (keep-in (isEntry sh) (blockCount sh) c);
         below = λ c u. keep-in (isEntry sh) (blockCount sh) c ∙ ap (λ (t : Bool). t && isEntry sh c) (le-ltb c (blockCount sh) u);
       }

@@ -4,7 +4,7 @@ use mathlib.Core.Path.{_≡_, refl, sym, ap, ap₂, _∙_}
 use mathlib.Core.Bool.{Bool, true, false, cond}
 use mathlib.Core.List.{List, [], _∷_}
 use mathlib.Core.Option.{none, some, Option·getD}
-use Prim.Native.Nat.{ℕ, _+_, _-_, _*_, _≤_, _<_}
+use Prim.Native.Nat.{ℕ, _+_, _≤_}
 use native.Mathlib.Omega.{arith}
 use lib.ListN.{length, getD, replicate, length-replicate, getD-replicate, List·getD-eq-default}
 use lib.Dec.{eqb}
@@ -12,7 +12,7 @@ use borrow.Author.Tests.{eq-eqb, ne-eqb}
 use Rattle.laws.proofs.Cases.{by-bool, by-lt}
 use Rattle.laws.specs.Lists.{from}
 use Rattle.laws.specs.Fold.{run}
-use Rattle.entity.specs.Limits.{blockLimit, regLimit, slotLimit, unitLimit, valueLimit}
+use Rattle.entity.specs.Limits.{regLimit, slotLimit, unitLimit, valueLimit}
 use Rattle.rules.specs.Sheet.{Sheet, regCount, unitsOf}
 use Rattle.rules.specs.Record.{Record, Known, nothing, absent, writeUnit, withKnown, begins}
 use Rattle.rules.specs.Forward.{writeHeld, takeIn}
@@ -20,9 +20,10 @@ use Rattle.record.specs.Layout.{definedAt, heldAt, notedRegAt, notedValueAt, re
 use Rattle.record.specs.Flat.{section, heldIn, recordIn, Long, Becomes}
 use Rattle.record.proofs.Sections.{held-is}
 use Rattle.record.proofs.Changes.{becomes-as}
-use Rattle.states.specs.Layout.{knownSize}
-use Rattle.states.specs.States.{Roomy, knownAt, isSet, stateIn}
+use Rattle.states.specs.Layout.{knownSize, stateAt}
+use Rattle.states.specs.States.{fits, knownAt, isSet, stateIn}
 use Rattle.states.proofs.Spans.{Span, section-same, section-is, section-long, section-at, section-filled, run-from}
+use Rattle.states.proofs.Cells.{fits-room}
 
 -- ---- what the two loops leave of the record
 
@@ -50,20 +51,21 @@ module _ (rec rec′ : List ℕ) (long : Long rec) where
         );
       }
 
-  pub taken : (states : List ℕ) (b : ℕ) → Roomy states → b < blockLimit → Span heldAt (λ j. getD states (b * knownSize + j) 0) rec knownSize rec′
-      → Becomes rec rec′ (withKnown (knownAt states (b * knownSize)) (recordIn rec))
+  pub taken : (states : List ℕ) (b : ℕ) → fits states b ≡ true → Span heldAt (λ j. getD states (stateAt b + j) 0) rec knownSize rec′
+      → Becomes rec rec′ (withKnown (knownAt states (stateAt b)) (recordIn rec))
   unfolding recordIn
-  taken states b r h s =
-      let f : ℕ → ℕ = λ j. getD states (b * knownSize + j) 0 in
+  taken states b h s =
+      let room : stateAt (b + 1) ≤ length states = fits-room states b h in
+      let f : ℕ → ℕ = λ j. getD states (stateAt b + j) 0 in
       let m : length rec′ ≡ length rec = s .long in
-      let e : section rec′ heldAt regLimit ≡ section states (b * knownSize) regLimit =
-      section-is rec′ heldAt regLimit (omega arith) (section states (b * knownSize) regLimit) (section-long states (b * knownSize) regLimit (omega arith))
-      (λ j u. s .done j (omega arith) ∙ sym (section-at states (b * knownSize) regLimit (omega arith) j u)) in
-      let g : section rec′ storedAt slotLimit ≡ section states (b * knownSize + regLimit) slotLimit =
-      section-is rec′ storedAt slotLimit (omega arith) (section states (b * knownSize + regLimit) slotLimit) (section-long states (b * knownSize + regLimit) slotLimit (omega arith))
+      let e : section rec′ heldAt regLimit ≡ section states (stateAt b) regLimit =
+      section-is rec′ heldAt regLimit (omega arith) (section states (stateAt b) regLimit) (section-long states (stateAt b) regLimit (omega arith))
+      (λ j u. s .done j (omega arith) ∙ sym (section-at states (stateAt b) regLimit (omega arith) j u)) in
+      let g : section rec′ storedAt slotLimit ≡ section states (stateAt b + regLimit) slotLimit =
+      section-is rec′ storedAt slotLimit (omega arith) (section states (stateAt b + regLimit) slotLimit) (section-long states (stateAt b + regLimit) slotLimit (omega arith))
       (λ j u.
       ap (λ (i : ℕ). getD rec′ i 0) (omega arith) ∙ s .done (regLimit + j) (omega arith)
-      ∙ sym (section-at states (b * knownSize + regLimit) slotLimit (omega arith) j u ∙ ap (λ (i : ℕ). getD states i 0) (omega arith))) in
+      ∙ sym (section-at states (stateAt b + regLimit) slotLimit (omega arith) j u ∙ ap (λ (i : ℕ). getD states i 0) (omega arith))) in
       let x : section rec′ unitRegAt unitLimit ≡ section rec unitRegAt unitLimit = section-same rec rec′ unitRegAt unitLimit (s .long) (omega arith) (λ j u. s .before (unitRegAt + j) (omega arith)) in
       let y : section rec′ unitValueAt unitLimit ≡ section rec unitValueAt unitLimit = section-same rec rec′ unitValueAt unitLimit (s .long) (omega arith) (λ j u. s .before (unitValueAt + j) (omega arith)) in
       record {
@@ -153,24 +155,24 @@ unfolding takeIn
 nothing-taken sh {rec} p = becomes-as p (sym (idle sh (begins nothing (recordIn rec)) (from 0 (regCount sh))))
 
 module _ (states : List ℕ) (n : ℕ) where
-  begun-set : isSet states n ≡ true → Option·getD (stateIn states n) nothing ≡ knownAt states (n * knownSize)
+  begun-set : isSet states n ≡ true → Option·getD (stateIn states n) nothing ≡ knownAt states (stateAt n)
   unfolding stateIn
-  begun-set e = ap (λ (z : Bool). Option·getD (cond z (some (knownAt states (n * knownSize))) none) nothing) e
+  begun-set e = ap (λ (z : Bool). Option·getD (cond z (some (knownAt states (stateAt n))) none) nothing) e
 
   begun-unset : isSet states n ≡ false → Option·getD (stateIn states n) nothing ≡ nothing
   unfolding stateIn
-  begun-unset e = ap (λ (z : Bool). Option·getD (cond z (some (knownAt states (n * knownSize))) none) nothing) e
+  begun-unset e = ap (λ (z : Bool). Option·getD (cond z (some (knownAt states (stateAt n))) none) nothing) e
 
 module _ (sh : Sheet) (rec a b c : List ℕ) (states : List ℕ) (n : ℕ) where
   pub takes-nothing : isSet states n ≡ false → Becomes rec a (begins nothing (recordIn rec)) → Becomes rec a (takeIn sh (Option·getD (stateIn states n) nothing) (recordIn rec))
   takes-nothing e p = becomes-as (nothing-taken sh p) (ap (λ (k : Known). takeIn sh k (recordIn rec)) (sym (begun-unset states n e)))
 
-  pub takes : isSet states n ≡ true → Becomes rec a (begins nothing (recordIn rec)) → Becomes a b (withKnown (knownAt states (n * knownSize)) (recordIn a))
+  pub takes : isSet states n ≡ true → Becomes rec a (begins nothing (recordIn rec)) → Becomes a b (withKnown (knownAt states (stateAt n)) (recordIn a))
       → Becomes b c (run (writeHeld sh (recordIn b .known .held)) (recordIn b) (from 0 (regCount sh)))
       → Becomes rec c (takeIn sh (Option·getD (stateIn states n) nothing) (recordIn rec))
   unfolding takeIn
   takes e p q r =
-      let z : recordIn b ≡ begins (knownAt states (n * knownSize)) (recordIn rec) = q .is ∙ ap (withKnown (knownAt states (n * knownSize))) (p .is) in
+      let z : recordIn b ≡ begins (knownAt states (stateAt n)) (recordIn rec) = q .is ∙ ap (withKnown (knownAt states (stateAt n))) (p .is) in
       record {
         long = r .long ∙ q .long ∙ p .long;
         is = r .is ∙ ap (λ (s : Record). run (writeHeld sh (s .known .held)) s (from 0 (regCount sh))) z

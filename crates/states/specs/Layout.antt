@@ -6,10 +6,6 @@ use Rattle.entity.specs.Limits.{slotLimit, regLimit, blockLimit}
 abbrev pub knownSize : ℕ
 knownSize = regLimit + slotLimit
 
--- the states of all blocks stand before; from here on stands a flag for each block
-abbrev pub flagsAt : ℕ
-flagsAt = knownSize * blockLimit
-
--- how long the table is
-abbrev pub statesLength : ℕ
-statesLength = flagsAt + blockLimit
+-- a flag for each block stands first, then the states: that of block b from here on, and n of them end where that of block n would begin
+abbrev pub stateAt : ℕ → ℕ
+stateAt b = blockLimit + b * knownSize

@@ -2,7 +2,7 @@
 ghost use mathlib.Core.Path.{_≡_};
 ghost use mathlib.Core.Bool.{true, cond, not, _||_};
 ghost use mathlib.Core.Option.{Option·getD};
-ghost use Prim.Native.Nat.{ℕ, _*_, _≤_, _<_};
+ghost use Prim.Native.Nat.{ℕ, _<_};
 ghost use lib.Dec.{eqb};
 ghost use Rattle.laws.specs.Fold.{run};
 ghost use Rattle.laws.specs.Lists.{from};
@@ -12,9 +12,9 @@ ghost use Rattle.rules.specs.Record.{Known, nothing, absent, withKnown, begins}
 ghost use Rattle.rules.specs.Forward.{Handed, writeHeld, takeIn, firstState, meet, sameKnown, handTo, handOn};
 ghost use Rattle.table.specs.Sheet.{sheetIn};
 ghost use Rattle.table.specs.Index.{Ready};
-ghost use Rattle.record.specs.Flat.{changedIn, recordIn, Long, Becomes};
-ghost use Rattle.states.specs.Layout.{knownSize, flagsAt, statesLength};
-ghost use Rattle.states.specs.States.{Roomy, knownAt, isSet, stateIn, Sets, handedIn, soleIn, Meets, Lies};
+ghost use Rattle.record.specs.Flat.{recordIn, Long, Becomes};
+ghost use Rattle.states.specs.Layout.{knownSize, stateAt};
+ghost use Rattle.states.specs.States.{fits, knownAt, isSet, stateIn, Sets, handedIn, soleIn, Meets, Lies};
 use entity::numbers::Block;
 use entity::numbers::PhysReg;
 use entity::numbers::SpillSlot;
@@ -34,44 +34,38 @@ use table::view::units;
 // How many numbers a state has.
 pub const KNOWN: usize = PhysReg::LIMIT as usize + SpillSlot::LIMIT as usize;
 
-// The states of all blocks, and after them a flag for each block: 1 once its state is set.
-pub const FLAGS: usize = KNOWN * Block::LIMIT as usize;
-
-pub const SIZE: usize = FLAGS + Block::LIMIT as usize;
+// A flag for each block, 1 once its state is set; and behind the flags the states, block after block.
+pub const FLAGS: usize = Block::LIMIT as usize;
 
 // The layout of the code is the layout of the definitions.
 pub fn layout_agrees()
     ensures { λ _. do ⌜ (← ⟦KNOWN⟧ .entry) ≡ knownSize ⌝ }
-    ensures { λ _. do ⌜ (← ⟦FLAGS⟧ .entry) ≡ flagsAt ⌝ }
-    ensures { λ _. do ⌜ (← ⟦SIZE⟧ .entry) ≡ statesLength ⌝ }
+    ensures { λ _. do ⌜ (← ⟦FLAGS⟧ .entry) ≡ blockLimit ⌝ }
 {}
 
-fn is_set(states: &[u32; SIZE], b: Block) -> bool
+// The table has room for block b.
+fn fits(states: &[u32], b: Block) -> bool
+    ensures { λ r. ⌜ r ≡ fits (now (states .entry)) (b .0) ⌝ }
+{
+    b.0 < Block::LIMIT && FLAGS + (b.0 as usize + 1) * KNOWN <= states.len()
+}
+
+fn is_set(states: &[u32], b: Block) -> bool
     ensures { λ r. ⌜ r ≡ isSet (now (states .entry)) (b .0) ⌝ }
 {
-    if b.0 < Block::LIMIT {
-        let i = FLAGS + b.0 as usize;
-        return states[i] == 1;
+    if fits(states, b) {
+        return states[b.0 as usize] == 1;
     }
     false
 }
 
-fn mark(states: &mut [u32; SIZE], b: Block)
-    ensures { λ _. ⌜ now (states .exit) ≡ changedIn flagsAt blockLimit (b .0) 1 (now (states .entry)) ⌝ }
-{
-    if b.0 < Block::LIMIT {
-        let i = FLAGS + b.0 as usize;
-        states[i] = 1;
-    }
-}
-
 // Block b begins with nothing known.
-pub(crate) fn set_nothing(states: &mut [u32; SIZE], b: Block)
-    ensures { λ _. ⌜ (Roomy (now (states .entry)) → Sets (now (states .entry)) (now (states .exit)) (b .0) nothing) ⌝ }
+pub(crate) fn set_nothing(states: &mut [u32], b: Block)
+    ensures { λ _. ⌜ Sets (now (states .entry)) (now (states .exit)) (b .0) nothing ⌝ }
 {
-    if b.0 < Block::LIMIT {
-        mark(states, b);
-        let at = b.0 as usize * KNOWN;
+    if fits(states, b) {
+        states[b.0 as usize] = 1;
+        let at = FLAGS + b.0 as usize * KNOWN;
         let mut i: usize = 0;
         while i < KNOWN {
             states[at + i] = NONE;
@@ -92,11 +86,11 @@ pub fn begin_empty(rec: &mut [u32; LENGTH])
 }
 
 // The record takes a block's state in place of its own.
-fn take_known(rec: &mut [u32; LENGTH], states: &[u32; SIZE], b: Block)
-    ensures { λ _. ⌜ (Long (now (rec .entry)) → Roomy (now (states .entry)) → b .0 < blockLimit → Becomes (now (rec .entry)) (now (rec .exit)) (withKnown (knownAt (now (states .entry)) (b .0 * knownSize)) (recordIn (now (rec .entry))))) ⌝ }
+fn take_known(rec: &mut [u32; LENGTH], states: &[u32], b: Block)
+    ensures { λ _. ⌜ (Long (now (rec .entry)) → fits (now (states .entry)) (b .0) ≡ true → Becomes (now (rec .entry)) (now (rec .exit)) (withKnown (knownAt (now (states .entry)) (stateAt (b .0))) (recordIn (now (rec .entry))))) ⌝ }
 {
-    if b.0 < Block::LIMIT {
-        let at = b.0 as usize * KNOWN;
+    if fits(states, b) {
+        let at = FLAGS + b.0 as usize * KNOWN;
         let mut i: usize = 0;
         while i < KNOWN {
             rec[HELD + i] = states[at + i];
@@ -127,8 +121,8 @@ fn write_all_held(t: &[u32], rec: &mut [u32; LENGTH])
 }
 
 // The record as block b begins, before its parameters.
-pub fn take_in(t: &[u32], rec: &mut [u32; LENGTH], states: &[u32; SIZE], b: Block)
-    ensures { λ _. ⌜ (Long (now (rec .entry)) → Roomy (now (states .entry)) → Becomes (now (rec .entry)) (now (rec .exit)) (takeIn (sheetIn (now (t .entry))) (Option·getD (stateIn (now (states .entry)) (b .0)) nothing) (recordIn (now (rec .entry))))) ⌝ }
+pub fn take_in(t: &[u32], rec: &mut [u32; LENGTH], states: &[u32], b: Block)
+    ensures { λ _. ⌜ (Long (now (rec .entry)) → Becomes (now (rec .entry)) (now (rec .exit)) (takeIn (sheetIn (now (t .entry))) (Option·getD (stateIn (now (states .entry)) (b .0)) nothing) (recordIn (now (rec .entry))))) ⌝ }
 {
     begin_empty(rec);
     if is_set(states, b) {
@@ -141,6 +135,9 @@ pub fn take_in(t: &[u32], rec: &mut [u32; LENGTH], states: &[u32; SIZE], b: Bloc
 fn handed(rec: &[u32; LENGTH], sole: bool, b: Block, v: u32) -> u32
     ensures { λ r. ⌜ r ≡ handedIn (now (rec .entry)) sole (b .0) v ⌝ }
 {
+    if v == NONE {
+        return NONE;
+    }
     if sole {
         if b.0 <= defined(rec, Value(v)) {
             return NONE;
@@ -150,12 +147,12 @@ fn handed(rec: &[u32; LENGTH], sole: bool, b: Block, v: u32) -> u32
 }
 
 // The first state of block b.
-fn first_state(rec: &[u32; LENGTH], states: &mut [u32; SIZE], sole: bool, b: Block)
-    ensures { λ _. ⌜ ((sh : Sheet) → Long (now (rec .entry)) → Roomy (now (states .entry)) → Sets (now (states .entry)) (now (states .exit)) (b .0) (firstState sh (soleIn sole (b .0)) (recordIn (now (rec .entry))))) ⌝ }
+fn first_state(rec: &[u32; LENGTH], states: &mut [u32], sole: bool, b: Block)
+    ensures { λ _. ⌜ ((sh : Sheet) → Long (now (rec .entry)) → Sets (now (states .entry)) (now (states .exit)) (b .0) (firstState sh (soleIn sole (b .0)) (recordIn (now (rec .entry))))) ⌝ }
 {
-    if b.0 < Block::LIMIT {
-        mark(states, b);
-        let at = b.0 as usize * KNOWN;
+    if fits(states, b) {
+        states[b.0 as usize] = 1;
+        let at = FLAGS + b.0 as usize * KNOWN;
         let mut i: usize = 0;
         while i < KNOWN {
             let v = rec[HELD + i];
@@ -180,12 +177,12 @@ fn gone(went: bool, v: u32, l: u32) -> bool
 }
 
 // Takes away pairs not now known; true if some went.
-fn meet(rec: &[u32; LENGTH], states: &mut [u32; SIZE], b: Block) -> bool
-    ensures { λ r. ⌜ ((sh : Sheet) → Long (now (rec .entry)) → Roomy (now (states .entry)) → isSet (now (states .entry)) (b .0) ≡ true → Meets sh (now (rec .entry)) (now (states .entry)) (now (states .exit)) (b .0) r) ⌝ }
+fn meet(rec: &[u32; LENGTH], states: &mut [u32], b: Block) -> bool
+    ensures { λ r. ⌜ ((sh : Sheet) → Long (now (rec .entry)) → isSet (now (states .entry)) (b .0) ≡ true → Meets sh (now (rec .entry)) (now (states .entry)) (now (states .exit)) (b .0) r) ⌝ }
 {
     let mut went = false;
-    if b.0 < Block::LIMIT {
-        let at = b.0 as usize * KNOWN;
+    if fits(states, b) {
+        let at = FLAGS + b.0 as usize * KNOWN;
         let mut i: usize = 0;
         while i < KNOWN {
             let v = states[at + i];
@@ -200,12 +197,12 @@ fn meet(rec: &[u32; LENGTH], states: &mut [u32; SIZE], b: Block) -> bool
 
 fn hand_to(
     rec: &[u32; LENGTH],
-    states: &mut [u32; SIZE],
+    states: &mut [u32],
     waiting: BlockSet,
     sole: bool,
     b: Block,
 ) -> BlockSet
-    ensures { λ r. ⌜ ((sh : Sheet) (n a : ℕ) (h : Handed) → Long (now (rec .entry)) → n ≤ blockLimit → b .0 < n → firstState sh (soleIn sole (b .0)) (recordIn (now (rec .entry))) ≡ firstState sh (succsOf sh a) (recordIn (now (rec .entry))) → Lies n (now (states .entry)) (waiting .0) h → Lies n (now (states .exit)) (r .0) (handTo sh a (recordIn (now (rec .entry))) h (b .0))) ⌝ }
+    ensures { λ r. ⌜ ((sh : Sheet) (n a : ℕ) (h : Handed) → Long (now (rec .entry)) → b .0 < n → firstState sh (soleIn sole (b .0)) (recordIn (now (rec .entry))) ≡ firstState sh (succsOf sh a) (recordIn (now (rec .entry))) → Lies n (now (states .entry)) (waiting .0) h → Lies n (now (states .exit)) (r .0) (handTo sh a (recordIn (now (rec .entry))) h (b .0))) ⌝ }
 {
     if is_set(states, b) {
         if meet(rec, states, b) {
@@ -221,7 +218,7 @@ fn hand_to(
 pub fn hand_on(
     t: &[u32],
     rec: &[u32; LENGTH],
-    states: &mut [u32; SIZE],
+    states: &mut [u32],
     waiting: BlockSet,
     b: Block,
 ) -> BlockSet

@@ -1,7 +1,7 @@
 // What `Forward` and `Global` start with.
 ghost use mathlib.Core.Path.{_≡_};
 ghost use mathlib.Core.Bool.{false};
-ghost use Prim.Native.Nat.{_+_};
+ghost use Prim.Native.Nat.{ℕ, _+_};
 ghost use lib.Dec.{leb};
 ghost use Rattle.laws.specs.Lists.{any};
 ghost use Rattle.bits.specs.Sets.{setOf};
@@ -12,7 +12,6 @@ ghost use Rattle.rules.specs.Forward.{beginsEmpty, forwardStart, globalStart};
 ghost use Rattle.table.specs.Sheet.{sheetIn};
 ghost use Rattle.table.specs.Index.{Ready};
 ghost use Rattle.states.specs.States.{Unset, Started, Waits, Lies};
-use crate::handed::SIZE;
 use crate::handed::set_nothing;
 use entity::numbers::Block;
 use entity::sets::BlockSet;
@@ -50,8 +49,8 @@ fn begins_empty(t: &[u32], b: Block) -> bool
 }
 
 // Block b is set, if it begins empty.
-fn empty_at(t: &[u32], states: &mut [u32; SIZE], b: Block)
-    ensures { λ _. ⌜ (Ready (now (t .entry)) → Started (beginsEmpty (sheetIn (now (t .entry)))) (now (states .entry)) (b .0) → Started (beginsEmpty (sheetIn (now (t .entry)))) (now (states .exit)) (b .0 + 1)) ⌝ }
+fn empty_at(t: &[u32], states: &mut [u32], b: Block)
+    ensures { λ _. ⌜ (Ready (now (t .entry)) → (n : ℕ) → Started (beginsEmpty (sheetIn (now (t .entry)))) n (now (states .entry)) (b .0) → Started (beginsEmpty (sheetIn (now (t .entry)))) n (now (states .exit)) (b .0 + 1)) ⌝ }
 {
     if begins_empty(t, b) {
         set_nothing(states, b);
@@ -59,8 +58,8 @@ fn empty_at(t: &[u32], states: &mut [u32; SIZE], b: Block)
 }
 
 // The blocks that begin empty are set to that.
-pub fn forward_start(t: &[u32], states: &mut [u32; SIZE])
-    ensures { λ _. ⌜ (Ready (now (t .entry)) → Unset (now (states .entry)) → (w : NumberSet) → w ≡ setOf (λ k. false) → Lies (blockCount (sheetIn (now (t .entry)))) (now (states .exit)) w (forwardStart (sheetIn (now (t .entry))))) ⌝ }
+pub fn forward_start(t: &[u32], states: &mut [u32])
+    ensures { λ _. ⌜ (Ready (now (t .entry)) → Unset (blockCount (sheetIn (now (t .entry)))) (now (states .entry)) → (w : NumberSet) → w ≡ setOf (λ k. false) → Lies (blockCount (sheetIn (now (t .entry)))) (now (states .exit)) w (forwardStart (sheetIn (now (t .entry))))) ⌝ }
 {
     let n = count(t, Kind::BLOCK);
     let mut b: u32 = 0;
@@ -71,8 +70,8 @@ pub fn forward_start(t: &[u32], states: &mut [u32; SIZE])
 }
 
 // Block b is set and waits, if it is an entry.
-fn entry_at(t: &[u32], states: &mut [u32; SIZE], w: BlockSet, b: Block) -> BlockSet
-    ensures { λ r. ⌜ (Started (isEntry (sheetIn (now (t .entry)))) (now (states .entry)) (b .0) → Started (isEntry (sheetIn (now (t .entry)))) (now (states .exit)) (b .0 + 1)) ⌝ }
+fn entry_at(t: &[u32], states: &mut [u32], w: BlockSet, b: Block) -> BlockSet
+    ensures { λ r. ⌜ ((n : ℕ) → Started (isEntry (sheetIn (now (t .entry)))) n (now (states .entry)) (b .0) → Started (isEntry (sheetIn (now (t .entry)))) n (now (states .exit)) (b .0 + 1)) ⌝ }
     ensures { λ r. ⌜ (Waits (isEntry (sheetIn (now (t .entry)))) (w .0) (b .0) → Waits (isEntry (sheetIn (now (t .entry)))) (r .0) (b .0 + 1)) ⌝ }
 {
     if is_entry(t, b) {
@@ -83,8 +82,8 @@ fn entry_at(t: &[u32], states: &mut [u32; SIZE], w: BlockSet, b: Block) -> Block
 }
 
 // The entries begin with nothing known, and wait.
-pub fn global_start(t: &[u32], states: &mut [u32; SIZE]) -> BlockSet
-    ensures { λ w. ⌜ (Ready (now (t .entry)) → Unset (now (states .entry)) → Lies (blockCount (sheetIn (now (t .entry)))) (now (states .exit)) (w .0) (globalStart (sheetIn (now (t .entry))))) ⌝ }
+pub fn global_start(t: &[u32], states: &mut [u32]) -> BlockSet
+    ensures { λ w. ⌜ (Ready (now (t .entry)) → Unset (blockCount (sheetIn (now (t .entry)))) (now (states .entry)) → Lies (blockCount (sheetIn (now (t .entry)))) (now (states .exit)) (w .0) (globalStart (sheetIn (now (t .entry))))) ⌝ }
 {
     let n = count(t, Kind::BLOCK);
     let mut w = BlockSet::empty();

@@ -1,18 +1,19 @@
--- For `kindsBegin` of specs/Table.antt: where each kind's rows begin, by counting; and a store past the rows leaves them. Assumes nothing.
+-- For `kindsBegin` of specs/Table.antt: where each kind's rows begin, by counting; and a store before the cells leaves the rows. Assumes nothing.
 use mathlib.Core.Path.{_≡_, refl, sym, _∙_, ap}
 use mathlib.Core.Bool.{Bool, true, false}
 use mathlib.Core.List.{List, [], _∷_}
 use Prim.Native.Nat.{ℕ, zero, suc, _+_, _-_, _<_, _≤_}
 use native.Mathlib.Nat.{add-zero}
 use native.Mathlib.Omega.{arith}
-use lib.ListN.{length, getD, take, drop, set, List·getD-map}
-use lib.Seq.{take-set-le, drop-set-add}
+use lib.ListN.{length, getD, take, drop, set, length-set, List·getD-map}
+use lib.Seq.{drop-set-lt, getD-set-same, getD-set-other}
 use lib.Dec.{ltb}
 use Rattle.laws.specs.Lists.{keep, from}
 use Rattle.laws.proofs.Lists.{getD-any}
 use Rattle.rules.specs.Words.{slotsWord}
 use Rattle.rules.specs.Rows.{kind}
-use Rattle.table.specs.Layout.{kindIndex, rowStarts}
+use Rattle.table.specs.Layout.{cellsAt}
+use Rattle.table.specs.Rows.{startIn}
 use Rattle.table.specs.Table.{flatten, kindsBegin, Holds, Rising}
 
 -- ---- counting
@@ -57,17 +58,23 @@ begin-at rs k h =
     getD-any (kindsBegin rs) k 0 (before 0 rs) (rw (long rs) h)
     ∙ List·getD-map (λ j. before j rs) (from 0 14) k 0 ∙ ap (λ (j : ℕ). before j rs) (from-at 0 14 k h ∙ omega arith)
 
--- ---- a store past the rows leaves them
+-- ---- a store and where rows start
 
-pub holds-store : {rs : List (List ℕ)} {t : List ℕ} → Holds rs t → (k v : ℕ) → Holds rs (set t (kindIndex + k) v)
-holds-store {rs} {t} h k v =
-    let e : kindIndex + k ≡ rowStarts + (kindIndex - rowStarts + k) = omega arith in
+module _ (t : List ℕ) (j v i : ℕ) where
+  pub start-kept : (length t - (i + 1) ≡ j → ⊥) → startIn (set t j v) i ≡ startIn t i
+  start-kept d = ap (λ (m : ℕ). getD (set t j v) (m - (i + 1)) 0) (length-set t j v) ∙ getD-set-other t j (length t - (i + 1)) v 0 d
+
+  pub start-stored : i < length t → j ≡ length t - (i + 1) → startIn (set t j v) i ≡ v
+  start-stored h e =
+      ap (λ (m : ℕ). getD (set t j v) (m - (i + 1)) 0) (length-set t j v) ∙ ap (λ (m : ℕ). getD (set t j v) m 0) (sym e) ∙ getD-set-same t j v 0 (omega arith)
+
+-- a store before the cells leaves the rows
+pub holds-store : {rs : List (List ℕ)} {t : List ℕ} → Holds rs t → (j v : ℕ) → j < cellsAt → Holds rs (set t j v)
+holds-store {rs} {t} h j v l =
     record {
-      cells-begin = take-set-le (length (flatten rs)) t (kindIndex + k) v (omega (arith, h .few-cells)) ∙ h .cells-begin;
-      starts-begin =
-          ap (λ (j : ℕ). take (length rs + 1) (drop rowStarts (set t j v))) e
-          ∙ ap (take (length rs + 1)) (drop-set-add rowStarts t (kindIndex - rowStarts + k) v)
-          ∙ take-set-le (length rs + 1) (drop rowStarts t) (kindIndex - rowStarts + k) v (omega (arith, h .few-rows)) ∙ h .starts-begin;
+      cells-begin = ap (take (length (flatten rs))) (drop-set-lt cellsAt t j v l) ∙ h .cells-begin;
+      starts-begin = λ i u. start-kept t j v i (λ e. omega (arith, h .apart)) ∙ h .starts-begin i u;
+      apart = rw (length-set t j v) (h .apart);
       few-cells = h .few-cells;
       few-rows = h .few-rows;
     }

@@ -2,14 +2,14 @@
 use mathlib.Core.Path.{_≡_, refl, sym, _∙_, ap, subst}
 use mathlib.Core.List.{List, [], _∷_, _++_, append-assoc}
 use Prim.Native.Nat.{ℕ, zero, suc, _+_, _-_, _<_, _≤_}
-use native.Mathlib.Nat.{add-assoc, add-zero}
+use native.Mathlib.Nat.{add-zero}
 use native.Mathlib.Numerals.{add-one}
 use native.Mathlib.Omega.{arith}
 use lib.ListN.{length, getD, take, drop, length-append, take-append-drop, drop-of-length-le}
-use lib.Seq.{getD-take, getD-drop, drop-at, take-append-seam, drop-cons}
-use Rattle.table.specs.Layout.{rowStarts}
+use lib.Seq.{drop-at, take-append-seam, drop-cons, length-take-le}
+use Rattle.table.specs.Layout.{cellsAt, cellLimit}
 use Rattle.table.specs.Table.{flatten, offsets, Holds, rowsFrom, rowsIn}
-use Rattle.table.specs.Rows.{rowIn}
+use Rattle.table.specs.Rows.{startIn, rowIn}
 
 first-offset : (a : ℕ) (rs : List (List ℕ)) → getD (offsets a rs) 0 0 ≡ a
 unfolding offsets
@@ -32,47 +32,43 @@ row-at (r ∷ rs) pre tl a (suc i) e h =
     subst (λ (l : List ℕ). take (length (getD rs i [])) (drop (getD (offsets (a + length r) rs) i 0) l) ≡ getD rs i [])
     (rw (append-assoc, append-assoc)) (row-at rs (pre ++ r) tl (a + length r) i (rw (length-append, e)) (omega arith))
 
-last-offset : (a : ℕ) (rs : List (List ℕ)) → getD (offsets a rs) (length rs) 0 ≡ a + length (flatten rs)
+pub last-offset : (a : ℕ) (rs : List (List ℕ)) → getD (offsets a rs) (length rs) 0 ≡ a + length (flatten rs)
 unfolding offsets flatten
 last-offset a [] = omega arith
 last-offset a (r ∷ rs) = last-offset (a + length r) rs ∙ omega (arith, length-append r (flatten rs))
 
 module _ {rs : List (List ℕ)} {t : List ℕ} (h : Holds rs t) where
-  cells-split : flatten rs ++ drop (length (flatten rs)) t ≡ t
-  cells-split = ap (λ (l : List ℕ). l ++ drop (length (flatten rs)) t) (sym (h .cells-begin)) ∙ take-append-drop (length (flatten rs)) t
+  cells-split : take cellsAt t ++ (flatten rs ++ drop (length (flatten rs)) (drop cellsAt t)) ≡ t
+  cells-split =
+      ap (λ (l : List ℕ). take cellsAt t ++ (l ++ drop (length (flatten rs)) (drop cellsAt t))) (sym (h .cells-begin))
+      ∙ ap (λ (l : List ℕ). take cellsAt t ++ l) (take-append-drop (length (flatten rs)) (drop cellsAt t)) ∙ take-append-drop cellsAt t
 
-  pub start-is : (i : ℕ) → i ≤ length rs → getD t (rowStarts + i) 0 ≡ getD (offsets 0 rs) i 0
-  start-is i l =
-      sym (getD-take (length rs + 1) (drop rowStarts t) i 0 (omega arith) ∙ getD-drop rowStarts t i 0)
-      ∙ ap (λ (x : List ℕ). getD x i 0) (h .starts-begin)
-
-  pub width-is : (i : ℕ) → i < length rs → getD t (rowStarts + i + 1) 0 ≡ getD t (rowStarts + i) 0 + length (getD rs i [])
+  pub width-is : (i : ℕ) → i < length rs → startIn t (i + 1) ≡ startIn t i + length (getD rs i [])
   width-is i l =
-      ap (λ (j : ℕ). getD t j 0) (add-assoc rowStarts i 1)
-      ∙ start-is (i + 1) (omega arith) ∙ ap (λ (j : ℕ). getD (offsets 0 rs) j 0) (add-one i) ∙ offset-next rs 0 i l
-      ∙ ap (λ (x : ℕ). x + length (getD rs i [])) (sym (start-is i (omega arith)))
+      h .starts-begin (i + 1) (omega arith) ∙ ap (λ (j : ℕ). getD (offsets cellsAt rs) j 0) (add-one i) ∙ offset-next rs cellsAt i l
+      ∙ ap (λ (x : ℕ). x + length (getD rs i [])) (sym (h .starts-begin i (omega arith)))
 
   -- rows start one after the other, within the cells
-  pub start-later : (i d : ℕ) → i + d ≤ length rs → getD t (rowStarts + i) 0 ≤ getD t (rowStarts + (i + d)) 0
+  pub start-later : (i d : ℕ) → i + d ≤ length rs → startIn t i ≤ startIn t (i + d)
   start-later i zero l = rw (add-zero i) (omega arith)
   start-later i (suc d) l =
-      let e : rowStarts + (i + suc d) ≡ rowStarts + (i + d) + 1 = omega arith in
+      let e : i + suc d ≡ i + d + 1 = omega arith in
       rw e (omega (arith, start-later i d (omega arith), width-is (i + d) (omega arith)))
 
-  pub start-within : (i : ℕ) → i ≤ length rs → getD t (rowStarts + i) 0 ≤ rowStarts
+  pub start-within : (i : ℕ) → i ≤ length rs → startIn t i ≤ cellsAt + cellLimit
   start-within i l =
       let e : i + (length rs - i) ≡ length rs = omega arith in
-      let a : getD t (rowStarts + i) 0 ≤ getD t (rowStarts + length rs) 0 = rw e at (start-later i (length rs - i) (omega arith)) in
-      omega (arith, a, start-is (length rs) (omega arith), last-offset 0 rs, h .few-cells)
+      let a : startIn t i ≤ startIn t (length rs) = rw e at (start-later i (length rs - i) (omega arith)) in
+      omega (arith, a, h .starts-begin (length rs) (omega arith), last-offset cellsAt rs, h .few-cells)
 
   -- THE REPRESENTATION
   pub row-is : (i : ℕ) → i < length rs → rowIn t i ≡ getD rs i []
   row-is i l =
-      let w : getD t (rowStarts + i + 1) 0 - getD t (rowStarts + i) 0 ≡ length (getD rs i []) = omega (arith, width-is i l) in
-      ap (λ (n : ℕ). take n (drop (getD t (rowStarts + i) 0) t)) w
-      ∙ ap (λ (a : ℕ). take (length (getD rs i [])) (drop a t)) (start-is i (omega arith))
-      ∙ ap (λ (l : List ℕ). take (length (getD rs i [])) (drop (getD (offsets 0 rs) i 0) l)) (sym cells-split)
-      ∙ row-at rs [] (drop (length (flatten rs)) t) 0 i refl l
+      let w : startIn t (i + 1) - startIn t i ≡ length (getD rs i []) = omega (arith, width-is i l) in
+      ap (λ (n : ℕ). take n (drop (startIn t i) t)) w
+      ∙ ap (λ (a : ℕ). take (length (getD rs i [])) (drop a t)) (h .starts-begin i (omega arith))
+      ∙ ap (λ (l : List ℕ). take (length (getD rs i [])) (drop (getD (offsets cellsAt rs) i 0) l)) (sym cells-split)
+      ∙ row-at rs (take cellsAt t) (drop (length (flatten rs)) (drop cellsAt t)) cellsAt i (length-take-le cellsAt t (omega (arith, h .apart))) l
 
   rows-are : (m i : ℕ) → i + m ≡ length rs → rowsFrom t i m ≡ drop i rs
   unfolding rowsFrom

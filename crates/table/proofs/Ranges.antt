@@ -1,7 +1,7 @@
 -- For `rangeIn` and `before` of specs/Index.antt and the reads of src/index.rt: what is read off the index, and the rows that it tells of. Assumes nothing.
 use mathlib.Core.Path.{_≡_, refl, sym, ap, _∙_}
-use mathlib.Core.Bool.{Bool, true, false, cond, _&&_}
-use mathlib.Core.List.{List, [], _∷_, map, flatMap, append-nil}
+use mathlib.Core.Bool.{Bool, cond}
+use mathlib.Core.List.{List, [], _∷_, flatMap, append-nil}
 use Prim.Native.Nat.{ℕ, zero, suc, _+_, _-_, _≤_, _<_}
 use native.Mathlib.Numerals.{add-one}
 use native.Mathlib.Omega.{arith}
@@ -34,13 +34,6 @@ module _ (t : List ℕ) (k f u : ℕ) where
 
   pub list-miss : u ≤ f → [] ≡ cond (ltb f u) (drop 2 (kindRow t k f)) []
   list-miss h = rw (le-ltb f u h)
-
-module _ (t : List ℕ) (k rows n x : ℕ) where
-  pub comes-hit : (r : ℕ) (row : List ℕ) → n < rows → row ≡ kindRow t k n → r ≡ getD row 1 0 → ltb r x ≡ (ltb n rows && ltb (first (kindRow t k n)) x)
-  comes-hit r row h e p = rw (lt-ltb n rows h, ← e, p)
-
-  pub comes-miss : rows ≤ n → false ≡ (ltb n rows && ltb (first (kindRow t k n)) x)
-  comes-miss h = rw (le-ltb n rows h)
 
 -- ---- rows by their first fields
 

@@ -82,15 +82,19 @@ module _ (cells : List ℕ) (n : ℕ) where
   unfolding withEdit editCells word find words
   stored-remat {l} q x h = subst (λ (e : Edit). SmallEdit e → l ≡ withEdit cells n e) (sym q) (λ s. h ∙ rw (x s))
 
-  pub stored-espill : {l : List ℕ} {e : Edit} {d : SpillSlot} {r : PhysReg} {a b : ℕ} → e ≡ Espill d r → (d .0 < numberLimit → a ≡ slotMark + d .0) → (r .0 < numberLimit → b ≡ regMark + r .0)
-      → l ≡ stores espillWord a b dashWord → SmallEdit e → l ≡ withEdit cells n e
+  pub stored-espill : {l : List ℕ} (d : SpillSlot) (r : PhysReg) {a b : ℕ} → (d .0 < numberLimit → a ≡ slotMark + d .0) → (r .0 < numberLimit → b ≡ regMark + r .0)
+      → l ≡ stores espillWord a b dashWord → SmallEdit (Espill d r) → l ≡ withEdit cells n (Espill d r)
   unfolding withEdit editCells placeCell word find words
-  stored-espill {l} q x y h = subst (λ (e : Edit). SmallEdit e → l ≡ withEdit cells n e) (sym q) (λ s. h ∙ rw (x (s .0), y (s .1)))
+  stored-espill d r x y h s = h ∙ rw (x (s .0), y (s .1))
 
-  pub stored-ereload : {l : List ℕ} {e : Edit} {d : SpillSlot} {r : PhysReg} {a b : ℕ} → e ≡ Ereload r d → (r .0 < numberLimit → a ≡ regMark + r .0) → (d .0 < numberLimit → b ≡ slotMark + d .0)
-      → l ≡ stores ereloadWord a b dashWord → SmallEdit e → l ≡ withEdit cells n e
+  pub stored-ereload : {l : List ℕ} (r : PhysReg) (d : SpillSlot) {a b : ℕ} → (r .0 < numberLimit → a ≡ regMark + r .0) → (d .0 < numberLimit → b ≡ slotMark + d .0)
+      → l ≡ stores ereloadWord a b dashWord → SmallEdit (Ereload r d) → l ≡ withEdit cells n (Ereload r d)
   unfolding withEdit editCells placeCell word find words
-  stored-ereload {l} q x y h = subst (λ (e : Edit). SmallEdit e → l ≡ withEdit cells n e) (sym q) (λ s. h ∙ rw (x (s .0), y (s .1)))
+  stored-ereload r d x y h s = h ∙ rw (x (s .0), y (s .1))
+
+  -- stored by a function of its own
+  pub stored-by : {l : List ℕ} {e e′ : Edit} → e ≡ e′ → (SmallEdit e′ → l ≡ withEdit cells n e′) → SmallEdit e → l ≡ withEdit cells n e
+  stored-by {l} q h = subst (λ (e : Edit). SmallEdit e → l ≡ withEdit cells n e) (sym q) h
 
   pub stored-misplaced : {l : List ℕ} {e : Edit} {to p : Place} → e ≡ Misplaced to p → l ≡ stores noneWord dashWord dashWord dashWord → SmallEdit e → l ≡ withEdit cells n e
   unfolding withEdit editCells word find words

@@ -1,5 +1,5 @@
--- The table: the cells from 0 on, one after the other; from `rowStarts` on where each row starts, and where the last one ends; from `kindIndex` on
--- where each kind's rows begin. And the rows that a table holds.
+-- The table: from `kindIndex` on where each kind's rows begin; from `cellsAt` on the cells, one after the other; from its end downward where each row
+-- starts, and where the last one ends. And the rows that a table holds.
 use Prim.Native.Nat.{ℕ, zero, suc, _+_, _<_, _≤_}
 use mathlib.Core.Path.{_≡_}
 use mathlib.Core.List.{List, [], _∷_, _++_, map}
@@ -8,8 +8,8 @@ use lib.ListN.{length, getD, take, drop}
 use Rattle.laws.specs.Lists.{keep, from}
 use Rattle.rules.specs.Words.{slotsWord}
 use Rattle.rules.specs.Rows.{kind}
-use Rattle.table.specs.Layout.{kindIndex, rowLimit, rowStarts}
-use Rattle.table.specs.Rows.{rowIn}
+use Rattle.table.specs.Layout.{kindIndex, cellsAt, rowLimit, cellLimit}
+use Rattle.table.specs.Rows.{startIn, rowIn}
 
 unfoldable pub flatten : List (List ℕ) → List ℕ
 flatten [] = []
@@ -24,11 +24,12 @@ offsets a (r ∷ rs) = a ∷ offsets (a + length r) rs
 unfoldable pub kindsBegin : List (List ℕ) → List ℕ
 kindsBegin rs = map (λ k. length (keep (λ r. ltb (kind r) (slotsWord + k)) rs)) (from 0 14)
 
--- the cells and the starts of these rows stand in the table
+-- the cells and the starts of these rows stand in the table, and do not meet
 pub record Holds (rs : List (List ℕ)) (t : List ℕ) : Type 0 where
-  pub cells-begin : take (length (flatten rs)) t ≡ flatten rs
-  pub starts-begin : take (length rs + 1) (drop rowStarts t) ≡ offsets 0 rs
-  pub few-cells : length (flatten rs) ≤ rowStarts
+  pub cells-begin : take (length (flatten rs)) (drop cellsAt t) ≡ flatten rs
+  pub starts-begin : (i : ℕ) → i ≤ length rs → startIn t i ≡ getD (offsets cellsAt rs) i 0
+  pub apart : cellsAt + length (flatten rs) + length rs < length t
+  pub few-cells : length (flatten rs) ≤ cellLimit
   pub few-rows : length rs ≤ rowLimit
 
 -- the rows' kinds never fall

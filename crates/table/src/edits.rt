@@ -108,6 +108,32 @@ fn store_cells(edits: &mut [u32], n: EditRow, kind: u32, to: u32, from: u32, val
     store_u32(edits, at + 3, value);
 }
 
+fn store_espill(edits: &mut [u32], n: EditRow, to: SpillSlot, from: PhysReg)
+    ensures { λ _. ⌜ (SmallEdit (Edit.Espill to from) → now (edits .exit) ≡ withEdit (now (edits .entry)) (n .0) (Edit.Espill to from)) ⌝ }
+{
+    store_cells(
+        edits,
+        n,
+        Word::ESPILL,
+        cell(Mark::SLOT, to.0),
+        cell(Mark::REG, from.0),
+        Word::DASH,
+    );
+}
+
+fn store_ereload(edits: &mut [u32], n: EditRow, to: PhysReg, from: SpillSlot)
+    ensures { λ _. ⌜ (SmallEdit (Edit.Ereload to from) → now (edits .exit) ≡ withEdit (now (edits .entry)) (n .0) (Edit.Ereload to from)) ⌝ }
+{
+    store_cells(
+        edits,
+        n,
+        Word::ERELOAD,
+        cell(Mark::REG, to.0),
+        cell(Mark::SLOT, from.0),
+        Word::DASH,
+    );
+}
+
 pub fn store_edit(edits: &mut [u32], n: EditRow, e: Edit)
     ensures { λ _. ⌜ (SmallEdit e → now (edits .exit) ≡ withEdit (now (edits .entry)) (n .0) e) ⌝ }
 {
@@ -130,26 +156,8 @@ pub fn store_edit(edits: &mut [u32], n: EditRow, e: Edit)
             Word::DASH,
             value.0,
         ),
-        Edit::Espill { to, from } => {
-            store_cells(
-                edits,
-                n,
-                Word::ESPILL,
-                cell(Mark::SLOT, to.0),
-                cell(Mark::REG, from.0),
-                Word::DASH,
-            )
-        }
-        Edit::Ereload { to, from } => {
-            store_cells(
-                edits,
-                n,
-                Word::ERELOAD,
-                cell(Mark::REG, to.0),
-                cell(Mark::SLOT, from.0),
-                Word::DASH,
-            )
-        }
+        Edit::Espill { to, from } => store_espill(edits, n, to, from),
+        Edit::Ereload { to, from } => store_ereload(edits, n, to, from),
         Edit::Misplaced { to: _, from: _ } => store_cells(
             edits,
             n,

@@ -1,28 +1,28 @@
 // The index of the rows: each block's first instruction, and where the rows of each block or instruction begin among those of their kind.
 // It is filled once rows and limits hold: `first` fields stand in order then, but for edits, which are looked up only once 6 holds.
 ghost use mathlib.Core.Path.{_≡_};
-ghost use mathlib.Core.Bool.{true, _&&_};
+ghost use mathlib.Core.Bool.{true};
 ghost use mathlib.Core.List.{List};
-ghost use Prim.Native.Nat.{ℕ, _+_, _<_, _≤_};
-ghost use lib.Dec.{ltb};
-ghost use lib.ListN.{length, getD, take};
+ghost use Prim.Native.Nat.{ℕ, max, min, _+_, _-_, _<_, _≤_};
+ghost use lib.ListN.{length, take, set};
+ghost use Rattle.laws.specs.Fold.{run};
+ghost use Rattle.laws.specs.Lists.{from};
 ghost use Rattle.entity.specs.Limits.{blockLimit, instLimit};
-ghost use Rattle.rules.specs.Rows.{first};
 ghost use Rattle.rules.specs.Sheet.{totalOf, sheetOf};
 ghost use Rattle.rules.specs.Accept.{withinLimits};
-ghost use Rattle.table.specs.Layout.{clobIndex, editIndex, editWidth, instIndex, kindIndex, opIndex, paramIndex, predIndex, rowStarts, succIndex, tableLength};
-ghost use Rattle.table.specs.Rows.{kindRow};
+ghost use Rattle.table.specs.Layout.{clobIndex, editIndex, editWidth, instIndex, kindIndex, opIndex, paramIndex, predIndex, succIndex, cellsAt, tableLength};
 ghost use Rattle.table.specs.Table.{Indexed};
 ghost use Rattle.table.specs.Index.{before, ofKind, Filled, Built, rangeIn};
+use crate::CELLS;
 use crate::INDEX;
-use crate::LENGTH;
-use crate::STARTS;
+use crate::LONG;
+use crate::MIDDLE;
+use crate::SHORT;
 use crate::edits::WIDTH;
 use crate::rows::Kind;
 use crate::rows::count;
 use crate::rows::row_of;
 use bits::tables::read_u32;
-use bits::tables::store_u32;
 use entity::numbers::Block;
 use entity::numbers::Inst;
 
@@ -43,7 +43,6 @@ pub const EDITS: usize = INDEX + 1392;
 
 // The layout of the code is the layout of the definitions.
 pub fn layout_agrees()
-    ensures { λ _. do ⌜ (← ⟦STARTS⟧ .entry) ≡ rowStarts ⌝ }
     ensures { λ _. do ⌜ (← ⟦INDEX⟧ .entry) ≡ kindIndex ⌝ }
     ensures { λ _. do ⌜ (← ⟦INSTS⟧ .entry) ≡ instIndex ⌝ }
     ensures { λ _. do ⌜ (← ⟦SUCCS⟧ .entry) ≡ succIndex ⌝ }
@@ -52,9 +51,22 @@ pub fn layout_agrees()
     ensures { λ _. do ⌜ (← ⟦OPS⟧ .entry) ≡ opIndex ⌝ }
     ensures { λ _. do ⌜ (← ⟦CLOBS⟧ .entry) ≡ clobIndex ⌝ }
     ensures { λ _. do ⌜ (← ⟦EDITS⟧ .entry) ≡ editIndex ⌝ }
-    ensures { λ _. do ⌜ (← ⟦LENGTH⟧ .entry) ≡ tableLength ⌝ }
+    ensures { λ _. do ⌜ (← ⟦CELLS⟧ .entry) ≡ cellsAt ⌝ }
     ensures { λ _. do ⌜ (← ⟦WIDTH⟧ .entry) ≡ editWidth ⌝ }
 {}
+
+// How long a table is for a sheet of so many bytes.
+pub fn room(bytes: usize) -> usize
+    ensures { λ r. ⌜ r ≡ tableLength bytes ⌝ }
+{
+    if bytes <= 1024 {
+        return SHORT;
+    }
+    if bytes <= 8192 {
+        return MIDDLE;
+    }
+    LONG
+}
 
 // Numbers from `from` up to, and without, `to`.
 pub struct Range {
@@ -62,52 +74,78 @@ pub struct Range {
     pub to: u32,
 }
 
-// Row n of a kind, if the kind has `rows` rows, is there and its first field is below x.
-fn comes_before(t: &[u32], k: Kind, rows: u32, n: u32, x: u32) -> bool
-    ensures { λ r. ⌜ r ≡ (ltb n rows && ltb (first (kindRow (now (t .entry)) (k .0) n)) x) ⌝ }
+// Stores n at each place from `at` up to, and without, `to`.
+fn stretch(t: &mut [u32], at: usize, to: usize, n: u32)
+    requires { ⌜ to ≤ length (now t) ⌝ }
+    ensures { λ _. ⌜ now (t .exit) ≡ run (λ l x. set l x n) (now (t .entry)) (from at (to - at)) ⌝ }
 {
-    if n < rows {
-        return read_u32(row_of(t, k, n), 1) < x;
+    let mut x = at;
+    while x < to {
+        t[x] = n;
+        x += 1;
     }
-    false
+}
+
+fn least(a: u32, b: u32) -> u32
+    ensures { λ r. ⌜ r ≡ min a b ⌝ }
+{
+    if a < b { a } else { b }
+}
+
+fn greatest(a: u32, b: u32) -> u32
+    ensures { λ r. ⌜ r ≡ max a b ⌝ }
+{
+    if a < b { b } else { a }
 }
 
 // At each x up to `most`: how many of the kind's rows come before the first whose first field is x or more.
 fn fill(t: &mut [u32], k: Kind, at: usize, most: u32)
-    requires { ⌜ (k .0 < 13) × (kindIndex + 14 ≤ at) × (at < tableLength) × (most < 1000) ⌝ }
-    ensures { λ _. ⌜ ((rs : List (List ℕ)) → Indexed rs (now (t .entry)) → at + most < length (now (t .entry))
+    requires { ⌜ (k .0 < 13) × (kindIndex + 14 ≤ at) × (at + most < cellsAt) ⌝ }
+    ensures { λ _. ⌜ ((rs : List (List ℕ)) → Indexed rs (now (t .entry))
         → Filled rs at (λ x. before x (ofKind (k .0) rs)) (most + 1) (now (t .entry)) (now (t .exit))) ⌝ }
 {
+    if t.len() < CELLS {
+        return;
+    }
     let rows = count(t, k);
     let mut x: u32 = 0;
     let mut n: u32 = 0;
-    while x <= most {
-        if comes_before(t, k, rows, n, x) {
-            n += 1;
-        } else {
-            store_u32(t, at + x as usize, n);
-            x += 1;
-        }
+    while n < rows {
+        let past = least(read_u32(row_of(t, k, n), 1), most) + 1;
+        stretch(t, at + x as usize, at + past as usize, n);
+        x = greatest(x, past);
+        n += 1;
     }
+    stretch(t, at + x as usize, at + most as usize + 1, rows);
 }
 
 // Each block's first instruction, and after the last block their number.
 fn fill_insts(t: &mut [u32])
-    ensures { λ _. ⌜ ((rs : List (List ℕ)) → Indexed rs (now (t .entry)) → totalOf (sheetOf rs .blocks) ≤ instLimit → instIndex + blockLimit < length (now (t .entry))
+    ensures { λ _. ⌜ ((rs : List (List ℕ)) → Indexed rs (now (t .entry)) → totalOf (sheetOf rs .blocks) ≤ instLimit
         → Filled rs instIndex (λ b. totalOf (take b (sheetOf rs .blocks))) (blockLimit + 1) (now (t .entry)) (now (t .exit))) ⌝ }
 {
+    if t.len() < CELLS {
+        return;
+    }
+    let blocks = least(count(t, Kind::BLOCK), Block::LIMIT);
     let mut b: u32 = 0;
     let mut sum: u32 = 0;
-    while b <= Block::LIMIT {
-        store_u32(t, INSTS + b as usize, sum);
+    while b < blocks {
+        t[INSTS + b as usize] = sum;
         let n = read_u32(row_of(t, Kind::BLOCK, b), 2);
         sum = (sum + n % 65536) % 65536;
         b += 1;
     }
+    stretch(
+        t,
+        INSTS + b as usize,
+        INSTS + Block::LIMIT as usize + 1,
+        sum,
+    );
 }
 
 pub fn build(t: &mut [u32])
-    ensures { λ _. ⌜ ((rs : List (List ℕ)) → Indexed rs (now (t .entry)) → withinLimits (sheetOf rs) ≡ true → tableLength ≤ length (now (t .entry))
+    ensures { λ _. ⌜ ((rs : List (List ℕ)) → Indexed rs (now (t .entry)) → withinLimits (sheetOf rs) ≡ true
         → Indexed rs (now (t .exit)) × Built (now (t .exit))) ⌝ }
 {
     fill_insts(t);
@@ -121,7 +159,7 @@ pub fn build(t: &mut [u32])
 
 // The part of the index at `at` for x, or nothing where x is past `most`.
 fn between(t: &[u32], at: usize, most: u32, x: u32) -> Range
-    requires { ⌜ at < tableLength ⌝ }
+    requires { ⌜ at < cellsAt ⌝ }
     ensures { λ r. ⌜ r ≡ rangeIn (now (t .entry)) at most x ⌝ }
 {
     if x < most {

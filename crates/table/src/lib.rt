@@ -6,11 +6,14 @@ pub mod index;
 pub mod rows;
 pub mod view;
 
-// The sections of the table, and its length.
-pub const CELLS: usize = 0;
+// The sections of the table; where each row starts stands from its end downward.
+pub const INDEX: usize = 0;
 
-pub const STARTS: usize = 32768;
+pub const CELLS: usize = 1920;
 
-pub const INDEX: usize = 54616;
+// How long a table is: for a sheet of at most 1,024 bytes, of at most 8,192, of any.
+pub const SHORT: usize = 2604;
 
-pub const LENGTH: usize = 56536;
+pub const MIDDLE: usize = 7384;
+
+pub const LONG: usize = 45612;

@@ -2,9 +2,8 @@
 ghost use mathlib.Core.Path.{_≡_};
 ghost use lib.ListN.{getD, take, drop};
 ghost use Prim.Native.Nat.{_-_};
-ghost use Rattle.table.specs.Rows.{rowIn, firstIn, countIn, kindRow};
+ghost use Rattle.table.specs.Rows.{startIn, rowIn, firstIn, countIn, kindRow};
 use crate::INDEX;
-use crate::STARTS;
 use bits::tables::read_u32;
 
 // The thirteen kinds of row, in their order.
@@ -54,13 +53,23 @@ pub fn part(t: &[u32], from: usize, to: usize) -> &[u32]
     &t[0..0]
 }
 
+// Where row i starts.
+pub fn start(t: &[u32], i: usize) -> u32
+    ensures { λ r. ⌜ r ≡ startIn (now (t .entry)) i ⌝ }
+{
+    if i < t.len() {
+        return t[t.len() - 1 - i];
+    }
+    read_u32(t, 0)
+}
+
 // Row i of the table.
 pub fn row(t: &[u32], i: u32) -> &[u32]
     ensures { λ r. ⌜ now r ≡ rowIn (now (t .entry)) i ⌝ }
 {
-    let at = STARTS + i as usize;
-    let from = read_u32(t, at) as usize;
-    let to = read_u32(t, at + 1) as usize;
+    let at = i as usize;
+    let from = start(t, at) as usize;
+    let to = start(t, at + 1) as usize;
     part(t, from, to)
 }
 

@@ -1,10 +1,11 @@
 //! Time of each stage over a file of cases: the originals', the oracle's own, and the
-//! whole of the library's call where one is linked.
+//! whole of the library's call where one is linked. It is the thread's own time, and
+//! nothing is timed as it runs first.
 
 use std::hint::black_box;
-use std::time::Instant;
 
 use crate::Clean;
+use crate::clock;
 use crate::frames::Case;
 use crate::internal::dead_spill_elimination::DeadSpillElimination;
 use crate::internal::move_optimizer::MoveOptimizer;
@@ -12,6 +13,7 @@ use crate::read::read;
 use crate::run;
 use crate::sheet::MAX_SHEET;
 
+/// So many sheets are timed at once: the clock itself takes a while.
 const CHUNK: usize = 32;
 
 const READ: usize = 0;
@@ -23,10 +25,12 @@ const SWEEP: usize = 5;
 const WRITE: usize = 6;
 const OPTIMISE_AGAIN: usize = 7;
 const SWEEP_AGAIN: usize = 8;
-const LIBRARY: usize = 9;
-const LIBRARY_OFF: usize = 10;
-const LIBRARY_UNSWEPT: usize = 11;
-const STAGES: usize = 12;
+const WHOLE: usize = 9;
+const WHOLE_AGAIN: usize = 10;
+const LIBRARY: usize = 11;
+const LIBRARY_OFF: usize = 12;
+const LIBRARY_UNSWEPT: usize = 13;
+const STAGES: usize = 14;
 
 const NAMES: [&str; STAGES] = [
     "read (oracle)",
@@ -38,26 +42,29 @@ const NAMES: [&str; STAGES] = [
     "write (oracle)",
     "optimise (Rust, used buffers)",
     "sweep (Rust, used buffers)",
+    "whole call with the Rust, fresh",
+    "whole call with the Rust, used buffers",
     "drifthurdle_clean, whole call",
     "drifthurdle_clean at level 0, flag 0",
     "drifthurdle_clean at the level, flag 0",
 ];
 
 /// ns by stage: of the present round, of the best one, and of all.
+#[derive(Clone)]
 struct Times {
-    round: [u128; STAGES],
-    best: [u128; STAGES],
-    total: [u128; STAGES],
+    round: [u64; STAGES],
+    best: [u64; STAGES],
+    total: [u64; STAGES],
 }
 
 impl Times {
     fn new() -> Self {
-        Self { round: [0; STAGES], best: [u128::MAX; STAGES], total: [0; STAGES] }
+        Self { round: [0; STAGES], best: [u64::MAX; STAGES], total: [0; STAGES] }
     }
     fn of<T>(&mut self, stage: usize, f: impl FnOnce() -> T) -> T {
-        let start = Instant::now();
+        let start = clock::now();
         let result = f();
-        self.round[stage] += start.elapsed().as_nanos();
+        self.round[stage] += clock::now() - start;
         result
     }
     fn end_round(&mut self) {
@@ -67,38 +74,72 @@ impl Times {
         }
         self.round = [0; STAGES];
     }
-    fn print(&self, sheets: usize, rounds: usize, linked: bool) {
-        let line = |name: &str, best: u128, total: u128| {
-            let (n, all) = (sheets as u128, (sheets * rounds) as u128);
-            println!("{name:44} {:>10} {:>10}", best / n, total / all);
+    /// The times of several lists of sheets as if they were one list.
+    fn sum(all: &[Times]) -> Self {
+        let add = |of: fn(&Times) -> &[u64; STAGES]| {
+            std::array::from_fn(|k| all.iter().map(|t| of(t)[k]).sum())
         };
-        let sum = |name: &str, stages: &[usize]| {
-            let add = |t: &[u128; STAGES]| stages.iter().map(|&k| t[k]).sum();
-            line(name, add(&self.best), add(&self.total));
+        Self { round: [0; STAGES], best: add(|t| &t.best), total: add(|t| &t.total) }
+    }
+    /// Each line's name, ns a sheet of the best rounds, and of the mean.
+    fn lines(&self, sheets: usize, rounds: usize, linked: bool) -> Vec<(&'static str, u64, u64)> {
+        let mut lines = vec![];
+        let mut line = |name, of: &dyn Fn(&[u64; STAGES]) -> u64| {
+            let (n, all) = (sheets as u64, (sheets * rounds) as u64);
+            lines.push((name, of(&self.best) / n, of(&self.total) / all));
         };
-        println!("{:44} {:>10} {:>10}", "ns per sheet", "best", "mean");
         for k in 0..if linked { STAGES } else { LIBRARY } {
-            line(NAMES[k], self.best[k], self.total[k]);
+            line(NAMES[k], &|t| t[k]);
         }
-        let less = |name: &str, a: usize, b: usize| {
-            let of = |t: &[u128; STAGES]| t[a].saturating_sub(t[b]);
-            line(name, of(&self.best), of(&self.total));
-        };
         if linked {
-            less("optimise (library, by difference)", LIBRARY_UNSWEPT, LIBRARY_OFF);
-            less("sweep (library, by difference)", LIBRARY, LIBRARY_UNSWEPT);
-            less("the library's two passes (by difference)", LIBRARY, LIBRARY_OFF);
+            let less = |a: usize, b: usize| move |t: &[u64; STAGES]| t[a].saturating_sub(t[b]);
+            line("optimise (library, by difference)", &less(LIBRARY_UNSWEPT, LIBRARY_OFF));
+            line("sweep (library, by difference)", &less(LIBRARY, LIBRARY_UNSWEPT));
+            line("the library's two passes (by difference)", &less(LIBRARY, LIBRARY_OFF));
         }
-        sum("the Rust's two passes (fresh)", &[NEW, OPTIMISE, SWEEP]);
-        sum("whole call with the Rust", &[READ, CHECK, BUILD, NEW, OPTIMISE, SWEEP, WRITE]);
+        line("the Rust's two passes (fresh)", &|t| t[NEW] + t[OPTIMISE] + t[SWEEP]);
+        line("the Rust's two passes (used buffers)", &|t| t[OPTIMISE_AGAIN] + t[SWEEP_AGAIN]);
+        lines
     }
 }
 
-/// Buffers that the originals use again, and the library's output buffer.
-struct Used {
+/// Buffers that are used again: the originals', and the library's output buffer.
+pub struct Used {
     optimizer: MoveOptimizer,
     dead: DeadSpillElimination,
     out: Vec<u8>,
+}
+
+impl Used {
+    pub fn new() -> Self {
+        Self {
+            optimizer: MoveOptimizer::new(),
+            dead: DeadSpillElimination::new(),
+            out: vec![0; MAX_SHEET],
+        }
+    }
+    /// The whole call with the Rust.
+    pub fn whole(&mut self, c: &Case) {
+        let Ok(sheet) = run::accept(black_box(c)) else { return };
+        let mut p = run::build(&sheet);
+        run::optimise(&mut p, &mut self.optimizer, c.level);
+        if c.sweep == 1 {
+            run::sweep(&mut p, &mut self.dead);
+        }
+        black_box(run::write(&run::outcome(&p)));
+    }
+    /// The whole call with the library.
+    pub fn clean(&mut self, clean: Clean, c: &Case) {
+        self.clean_at(clean, c, c.level, c.sweep);
+    }
+    fn clean_at(&mut self, clean: Clean, c: &Case, level: u32, sweep: u32) {
+        let (sheet, out) = (black_box(&c.sheet), &mut self.out[..c.cap.min(MAX_SHEET)]);
+        // SAFETY: both pointers are good for the lengths given with them.
+        let n = unsafe {
+            clean(sheet.as_ptr(), sheet.len(), level, sweep, out.as_mut_ptr(), out.len())
+        };
+        black_box(n);
+    }
 }
 
 fn chunk(cases: &[Case], t: &mut Times, used: &mut Used, clean: Option<Clean>) {
@@ -133,19 +174,15 @@ fn chunk(cases: &[Case], t: &mut Times, used: &mut Used, clean: Option<Clean>) {
             run::sweep(p, &mut used.dead);
         }
     });
+    t.of(WHOLE, || cases.iter().for_each(|c| drop(black_box(run::call(c)))));
+    cases.iter().for_each(|c| used.whole(c));
+    t.of(WHOLE_AGAIN, || cases.iter().for_each(|c| used.whole(c)));
     if let Some(clean) = clean {
-        let out = &mut used.out;
-        t.of(LIBRARY, || cases.iter().for_each(|c| library(clean, c, c.level, c.sweep, out)));
-        t.of(LIBRARY_OFF, || cases.iter().for_each(|c| library(clean, c, 0, 0, out)));
-        t.of(LIBRARY_UNSWEPT, || cases.iter().for_each(|c| library(clean, c, c.level, 0, out)));
+        cases.iter().for_each(|c| used.clean(clean, c));
+        t.of(LIBRARY, || cases.iter().for_each(|c| used.clean(clean, c)));
+        t.of(LIBRARY_OFF, || cases.iter().for_each(|c| used.clean_at(clean, c, 0, 0)));
+        t.of(LIBRARY_UNSWEPT, || cases.iter().for_each(|c| used.clean_at(clean, c, c.level, 0)));
     }
-}
-
-fn library(clean: Clean, c: &Case, level: u32, sweep: u32, out: &mut [u8]) {
-    let (sheet, to) = (black_box(&c.sheet), out.as_mut_ptr());
-    // SAFETY: both pointers are good for the lengths given with them.
-    let n = unsafe { clean(sheet.as_ptr(), sheet.len(), level, sweep, to, out.len()) };
-    black_box(n);
 }
 
 /// How many sheets an optimizer answers otherwise after the sheets before: the
@@ -166,35 +203,53 @@ pub fn bench(
     mut cases: Vec<Case>,
     rounds: usize,
     force: Option<(u32, u32)>,
+    csv: bool,
     clean: Option<Clean>,
 ) -> Result<bool, String> {
     if let Some((level, sweep)) = force {
         cases.iter_mut().for_each(|c| (c.level, c.sweep) = (level, sweep));
-        println!("level {level}, sweep flag {sweep} throughout");
     }
     cases.retain(|c| run::accept(c).is_ok());
     let n = cases.len();
     if n == 0 || rounds == 0 {
         return Err("bench: no accepted case, or no round".into());
     }
-    let bytes: usize = cases.iter().map(|c| c.sheet.len()).sum();
-    println!("{n} accepted sheets, {} bytes on average, {rounds} rounds", bytes / n);
+    let bytes = cases.iter().map(|c| c.sheet.len()).sum::<usize>() / n;
+    let lines = measure(&cases, rounds, clean).lines(n, rounds, clean.is_some());
+    if csv {
+        println!("sheets,bytes,name,best_ns,mean_ns");
+        for (name, best, mean) in lines {
+            println!("{n},{bytes},\"{name}\",{best},{mean}");
+        }
+        return Ok(true);
+    }
+    if let Some((level, sweep)) = force {
+        println!("level {level}, sweep flag {sweep} throughout");
+    }
+    println!("{n} accepted sheets, {bytes} bytes on average, {rounds} rounds");
     if cfg!(debug_assertions) {
         println!("(debug build: the numbers mean little)");
     }
-    let mut times = Times::new();
-    let mut used = Used {
-        optimizer: MoveOptimizer::new(),
-        dead: DeadSpillElimination::new(),
-        out: vec![0; MAX_SHEET],
-    };
-    for _ in 0..rounds {
-        for part in cases.chunks(CHUNK) {
-            chunk(part, &mut times, &mut used, clean);
-        }
-        times.end_round();
+    println!("{:44} {:>10} {:>10}", "ns per sheet", "best", "mean");
+    for (name, best, mean) in lines {
+        println!("{name:44} {best:>10} {mean:>10}");
     }
-    times.print(n, rounds, clean.is_some());
     println!("answers of a used optimizer that differ: {} of {n}", reused_differ(&cases));
     Ok(true)
+}
+
+/// Some sheets at a time, each lot with its own best round; the first round is not timed.
+fn measure(cases: &[Case], rounds: usize, clean: Option<Clean>) -> Times {
+    let mut used = Used::new();
+    let mut times = vec![Times::new(); cases.len().div_ceil(CHUNK)];
+    for part in cases.chunks(CHUNK) {
+        chunk(part, &mut Times::new(), &mut used, clean);
+    }
+    for _ in 0..rounds {
+        for (part, t) in cases.chunks(CHUNK).zip(&mut times) {
+            chunk(part, t, &mut used, clean);
+            t.end_round();
+        }
+    }
+    Times::sum(&times)
 }

@@ -19,6 +19,7 @@ use crate::sheet::MAX_SHEET;
 use crate::small;
 use crate::why;
 use crate::worked;
+use crate::worst;
 
 const USAGE: &str = "\
 oracle LEVEL SWEEP CAP < sheet            answer on stdout, return number on stderr
@@ -36,7 +37,9 @@ oracle smalldiff K                        the same on all cases of K items on th
 oracle why CASES                          which rule refuses, and the refusals written twice
 oracle model CASES [QUIRK]                level 0 and sweep against 01's model and `brought on`
 oracle quirks CASES                       how many cases show each of a list of likely mistakes
-oracle bench CASES [ROUNDS [LEVEL SWEEP]] ns per sheet by stage
+oracle bench CASES [ROUNDS [LEVEL SWEEP]] ns per sheet by stage; with --csv at the end for programs
+oracle worst [ROUNDS]                     sheets that press on one step each, timed; --csv as above
+oracle worst cases                        these sheets
 oracle show CASES K                       sheet number K (from 0) on stdout, its call on stderr
 oracle pick CASES K..                     the cases of these numbers as a case file
 CASES is a file, or - for stdin. Exit status: 0 well, 1 something differs, 2 cannot run.";
@@ -76,11 +79,12 @@ fn command(words: &[&str], clean: Option<Clean>) -> Ended {
         ["why", file] => Ok(why::report(&load(file)?)),
         ["model", file] => Ok(model::report(&load(file)?, None)),
         ["model", file, quirk] => Ok(model::report(&load(file)?, Some(number(quirk)?))),
-        ["bench", file] => bench(load(file)?, 20, None, clean),
-        ["bench", file, rounds] => bench(load(file)?, number(rounds)?, None, clean),
-        ["bench", file, rounds, level, sweep] => {
-            bench(load(file)?, number(rounds)?, Some((number(level)?, number(sweep)?)), clean)
-        }
+        ["bench", file, ref rest @ ..] => time(file, rest, clean),
+        ["worst", "cases"] => put_cases(worst::all().into_iter().map(|w| w.case)),
+        ["worst"] => worst::report(20, false, clean),
+        ["worst", "--csv"] => worst::report(20, true, clean),
+        ["worst", rounds] => worst::report(number(rounds)?, false, clean),
+        ["worst", rounds, "--csv"] => worst::report(number(rounds)?, true, clean),
         ["show", file, k] => show(file, k),
         ["pick", file, ref ks @ ..] => pick(file, ks),
         [level, sweep, cap] if level.starts_with(|c: char| c.is_ascii_digit()) => {
@@ -164,6 +168,20 @@ fn damage(seed: &str, n: &str) -> Ended {
 fn small(k: &str, shape: &str, level: &str, sweep: &str) -> Ended {
     small::cases(number(k)?, number(shape)?, number(level)?, number(sweep)?, &mut |b| put(b));
     Ok(true)
+}
+
+fn time(file: &str, rest: &[&str], clean: Option<Clean>) -> Ended {
+    let (rest, csv) = match rest {
+        [rest @ .., "--csv"] => (rest, true),
+        _ => (rest, false),
+    };
+    let (rounds, force) = match *rest {
+        [] => (20, None),
+        [rounds] => (number(rounds)?, None),
+        [rounds, level, sweep] => (number(rounds)?, Some((number(level)?, number(sweep)?))),
+        _ => return Err(USAGE.into()),
+    };
+    bench(load(file)?, rounds, force, csv, clean)
 }
 
 fn answers(file: &str) -> Ended {

@@ -86,6 +86,7 @@ pub struct RegisterAllocator {
 mod accept;
 mod bench;
 pub mod cli;
+mod clock;
 mod compare;
 mod cover;
 mod diff;
@@ -103,3 +104,4 @@ mod sheet;
 mod small;
 mod why;
 mod worked;
+mod worst;

@@ -4,13 +4,13 @@ use Rattle.drifthurdle.proofs.check.Statement.{statement}
 use Rattle.drifthurdle.proofs.check.Tie as tie
 
 returns : tie.Need-returns
-returns c rs x ok h =
+returns c rs x ok =
     (limits-refuse x (c .before .within-limits .ensures) (is-false (c .if1 .taken)), no-limits x (c .before .within-limits .ensures) (is-false (c .if1 .taken)))
 
 returns-2 : tie.Need-returns-2
-returns-2 c rs x ok h =
+returns-2 c rs x ok =
     let l = limits-pass x (c .before .before .before .before .before .before .before .within-limits .ensures) (is-true (c .before .before .before .before .before .before .if1 .left)) in
-    let b = c .before .before .before .before .build .ensures rs x l h in
+    let b = c .before .before .before .before .build .ensures rs x l in
     (c .check-ready .ensures rs (b .0) ok l (b .1), tabled (b .0) ok l (b .1))
 
 pub check-spec : {M : Type 1} → statement M

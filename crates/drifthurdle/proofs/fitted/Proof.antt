@@ -1,4 +1,4 @@
-use Rattle.drifthurdle.proofs.Fitting.{no-room, room}
+use Rattle.drifthurdle.proofs.Fitting.{sure}
 use borrow.Author.Needs.{needs}
 use Rattle.drifthurdle.proofs.fitted.Statement.{statement}
 use Rattle.drifthurdle.proofs.fitted.Tie as tie
@@ -7,9 +7,13 @@ pub fitted-spec : {M : Type 1} → statement M
 fitted-spec =
     tie.close
     (tie.spec
-    (λ c. search needs)
     (λ c κs. search needs)
-    (λ c w x. no-room _ _ (c .before .before .render .ensures w x .0) (c .if1 .taken))
     (λ c κs. search needs)
     (λ c. search needs)
-    (λ c w x. room _ _ (c .before .before .before .before .before .before .render .ensures w x .0) (c .before .before .before .before .if1 .left) (c .before .before .render2 .ensures w x .1)))
+    (λ c w x.
+    let f = c .before .before .before .before in
+    let m = f .before in
+    sure _ x (λ i. m .before .before .shared-slice-known4 .given i .fits) (m .most .ensures) (f .if1 .taken) (c .before .before .render .ensures w x))
+    (λ c κs. search needs)
+    (λ c. search needs)
+    (λ c. search needs))

@@ -1,5 +1,4 @@
 use mathlib.Core.Path.{_∙_, ap}
-use native.Mathlib.Omega.{arith}
 use Rattle.accept.specs.Blocks.{asChecked}
 use Rattle.sheet.proofs.Answering.{answer-true, answer-false}
 use Rattle.drifthurdle.proofs.Refusing.{is-true, is-false, rows-refuse, rows-pass, rows-ok, one-rows}
@@ -20,7 +19,7 @@ returns-2 c h =
     let a = c .before .before .before .before .before .before .before .before .before .before .before .args in
     let r = c .before .before .before .before .before .before .before .read in
     let x = answer-true (a .sheet .now) (a .t .now) (r .last .1 .0) (r .ensures) (is-true (c .before .before .before .before .if1 .left)) in
-    let y = c .before .before .check .ensures (x .0) (x .2) (rows-ok (a .sheet .now) (x .0) (x .1)) (omega arith) in
+    let y = c .before .before .check .ensures (x .0) (x .2) (rows-ok (a .sheet .now) (x .0) (x .1)) in
     (y .0 ∙ ap asChecked (rows-pass (a .sheet .now) (x .0) (x .1)), λ rs e. one-rows (a .sheet .now) (x .1) e (y .1))
 
 pub read-and-check-spec : {M : Type 1} → statement M

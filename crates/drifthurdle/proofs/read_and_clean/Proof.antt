@@ -1,5 +1,4 @@
-use native.Mathlib.Omega.{arith}
-use Rattle.drifthurdle.proofs.Refusing.{check-refused, check-accepted}
+use Rattle.drifthurdle.proofs.Refusing.{too-long}
 use borrow.Author.Needs.{needs}
 use Rattle.drifthurdle.proofs.read_and_clean.Statement.{statement}
 use Rattle.drifthurdle.proofs.read_and_clean.Tie as tie
@@ -8,15 +7,13 @@ pub read-and-clean-spec : {M : Type 1} → statement M
 read-and-clean-spec =
     tie.close
     (tie.spec
-    (λ c. search needs)
     (λ c κs. search needs)
     (λ c. search needs)
-    (λ c. search needs)
-    (λ c. search needs)
+    (λ c. c .before .before .clean-short .ensures (c .before .before .before .before .if1 .taken))
     (λ c κs. search needs)
-    (λ c. check-refused _ _ _ (c .before .before .before .before .read-and-check .ensures (omega arith) .0) _ (c .before .r .given .1))
     (λ c. search needs)
-    (λ c.
-    let r = c .before .before .before .before .before .before .before .before in
-    let k = r .read-and-check .ensures (omega arith) in
-    check-accepted _ _ _ (k .0) (r .before .before .before .before .args .out .now) (c .before .before .before .before .before .enum-told .given .1) (k .1) (c .before .before .cleaned .ensures)))
+    (λ c. c .before .before .clean-middle .ensures (c .before .before .before .before .if2 .taken))
+    (λ c. too-long _ _ _ _ _ (c .if3 .taken))
+    (λ c κs. search needs)
+    (λ c. search needs)
+    (λ c. search needs))

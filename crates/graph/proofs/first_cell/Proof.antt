@@ -9,5 +9,6 @@ first-cell-spec =
     (λ c. search needs)
     (λ c. search needs)
     (λ c κs. search needs)
+    (λ c. search needs)
     (λ c κs. search needs)
     (λ c. base-by _ _ _ _ (c .before .read-u32 .ensures) (c .start .ensures)))

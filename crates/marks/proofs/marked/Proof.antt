@@ -20,7 +20,7 @@ use contract.Running.{givenOf, tables, tablesOf}
 use types.Kit.{Given, Item, ‵, raw, _⊛_, ⋆, some, later, given, _$_, _∵_, !, qed, by, move, keep, drop, use1, use2, use3, split, join, pick, learn, rewrite, fsplit, fjoin, feqL, suffices, frame, await, done}
 use types.Tokens.{lft-new, lft-end}
 use types.Part.{agg}
-use types.Run.{look, init, forget, stop, from, load, addr, of-opd, and-then, no-more, land, assigns, returns, enter, alloc1, alloc0, params1, pass1, pass0, free1, free0}
+use types.Run.{look, init, forget, stop, from, load, lit, addr, of-opd, and-then, no-more, land, assigns, returns, enter, alloc1, alloc0, params1, pass1, pass0, free1, free0}
 use types.SemTy.{cells, Arr}
 use sound.WpLaws.{FmC, fmOf, WpFn-mono}
 use denote.RattleType.{owns}
@@ -47,7 +47,6 @@ use Rattle.marks.specs.Marks.{struckBy}
 use Rattle.marks.specs.declared.EditRecord.{EditRecord}
 use Rattle.marks.proofs.EditRecord as T
 use Rattle.marks.proofs.EditRecord.Laws as T′
-use Rattle.marks.proofs.Big.{big-lit}
 use Rattle.marks.proofs.Row.{R, AR, vals, mach, list-mir, put-in, take-out}
 use Rattle.marks.proofs.mark as mark′
 use Rattle.marks.proofs.mark.Symbol as mark-def
@@ -107,16 +106,16 @@ module _ {M : Type 1} (𝓤 : URA M) (H : Heap 𝓤) (A : Atoms 𝓤) (W : Given
   goes α b δ = qed W (Given-up α b δ) ∵ join ! $ frame ! $ done !
 
   typed : (zs : List EditRecord) → Is AR zs (mach zs ∷ []) → Holds (hasTy list-mir (mach zs)) × WT (mach zs)
-  typed zs is = array-lawful 𝓤 H A W R (LL.lawful T.the-type T′.the-laws 𝓤 H A W) 1024 .typed zs _ is .0
+  typed zs is = array-lawful 𝓤 H A W R (LL.lawful T.the-type T′.the-laws 𝓤 H A W) 64 .typed zs _ is .0
 
-  room : length xs ≡ 1024 → Room R (length xs)
+  room : length xs ≡ 64 → Room R (length xs)
   room len = subst (Room R) (sym len) (lit< tt, lit< tt)
 
   exits : (zs : List EditRecord) → zs ≡ struckBy xs ms → Is AR zs (mach zs ∷ []) → ent 𝓤 (⋆ 𝓤 H A (Toks ∷ [])) (Post (mach zs))
   exits zs e is =
       qed W (Toks ∷ []) ∵ suffices ! _ (ends-at 𝓤 H A marked′.ended stayed (marked′.clauses 𝓤 H A at-mem run) W (((κr, tt), (qr, tt), tt, x, at), tt) (mach zs) zs (tt, (tt, tt)) (tt, (tt, tt))) $ says ! e $ frame ! $
       nothing ! $ nothing ! $ fjoin ! $ nothing ! $ fjoin ! $
-      owned ! AR (Is AR) (array-makes 𝓤 H A W R ((LL.makes T.the-type T′.the-plain) 𝓤 H A) 1024) zs _ is $ move ! (1 ∷ 0 ∷ []) $ done !
+      owned ! AR (Is AR) (array-makes 𝓤 H A W R ((LL.makes T.the-type T′.the-plain) 𝓤 H A) 64) zs _ is $ move ! (1 ∷ 0 ∷ []) $ done !
 
   module _ (C : Calls 𝓤 H) (Λ : Loops 𝓤 H) (fm : FmC 𝓤 H (W .laws) C) (known : Triple 𝓤 (C #marks·mark) (Mark 𝓤 H A at-mem run)) where
     walk : Is AR xs (mach xs ∷ []) → Room u8 (length ms) → ent 𝓤 (onEntry 𝓤 H A marked′.signature (κr, tt) (qr, tt) x at) (WpFn 𝓤 H C Λ code.function (mach xs ∷ sliceVal (br, or) (length ms) ∷ []) Post)
@@ -127,8 +126,8 @@ module _ {M : Type 1} (𝓤 : URA M) (H : Heap 𝓤) (A : Atoms 𝓤) (W : Given
         -- [_6; …; _5; …; _4; …; own; …; marks; …; list; …; room for _0; …; true; what the parameters own]
         assigns ! (of-opd ! (load ! (from ! (stop !)) (look ! 10 refl))) (from ! (stop !)) (init ! 6 refl (typed xs is)) $
         assigns ! (addr ! (from ! (stop !))) (from ! (stop !)) (init ! 2 refl (tt, tt)) $
-        assigns ! (agg ! (and-then ! (load ! (from ! (stop !)) (look ! 2 refl)) (and-then ! (big-lit ! (record { fits = lit< tt })) (no-more !)))) (from ! (stop !)) (init ! 0 refl (tt, (tt, (record { fits = lit< tt }, tt)))) $
-        lft-new ! tt (λ α. move ! (7 ∷ []) $ use1 W (given (length xs ≡ 1024) (‵ (cells (mem R) xs l₃ 0))) (put-in 𝓤 H A W l₃ 0 xs is) $ learn ! (λ len.
+        assigns ! (agg ! (and-then ! (load ! (from ! (stop !)) (look ! 2 refl)) (and-then ! (lit ! tt) (no-more !)))) (from ! (stop !)) (init ! 0 refl (tt, (tt, (record { fits = lit< tt }, tt)))) $
+        lft-new ! tt (λ α. move ! (7 ∷ []) $ use1 W (given (length xs ≡ 64) (‵ (cells (mem R) xs l₃ 0))) (put-in 𝓤 H A W l₃ 0 xs is) $ learn ! (λ len.
         use1 W (later (some (λ (δ : GName). ‵ (own-at α l₃ δ) ⊛ ‵ (flent (α ∷ []) (Held R (length xs) l₃ 0 δ))))) (lends-slice 𝓤 H A W R (named 0) (α ∷ []) xs l₃ 0 (room len)) $ await ! tt $ pick ! (λ δ. split ! $
         rewrite ! 3 (λ (m : ℕ). ‵ (fat fullShare slice l₆ 0 (sliceVal (l₃, 0) m))) (sym len) refl $
         move ! (17 ∷ []) $ fsplit ! $ drop ! $ move ! (1 ∷ 0 ∷ []) $ fjoin ! $ move ! (2 ∷ 16 ∷ 0 ∷ []) $ join ! $ use2 W (raw (Mark 𝓤 H A at-mem run .pre (to-mark α l₃ δ))) (goes α l₃ δ) $
@@ -149,7 +148,7 @@ module _ {M : Type 1} (𝓤 : URA M) (H : Heap 𝓤) (A : Atoms 𝓤) (W : Given
 
 module _ {M : Type 1} (𝓤 : URA M) (H : Heap 𝓤) (A : Atoms 𝓤) (W : Given 𝓤 H A) (at-mem : Memory → SProp 𝓤) (run : Routine → Fun 𝓤) (𝓣 : Tables 𝓤 H) (known : Triple 𝓤 (𝓣 .C #marks·mark) (Mark 𝓤 H A at-mem run)) where
   marked-walks : Walks 𝓤 H A marked′.ended stayed (WpFn 𝓤 H (𝓣 .C) (𝓣 .Λ) code.function) (marked′.clauses 𝓤 H A at-mem run)
-  marked-walks = walked 𝓤 H A marked′.ended stayed (marked′.clauses 𝓤 H A at-mem run) (WpFn 𝓤 H (𝓣 .C) (𝓣 .Λ) code.function) (λ κs. (vals, (slice-vals, tt))) (λ κs. (array-tells R (LL.vals T.the-type T′.the-laws) (LL.tells T.the-type T′.the-laws) 1024, (shr-slice-tells (named 0) (κs .0) u8, tt)))
+  marked-walks = walked 𝓤 H A marked′.ended stayed (marked′.clauses 𝓤 H A at-mem run) (WpFn 𝓤 H (𝓣 .C) (𝓣 .Λ) code.function) (λ κs. (vals, (slice-vals, tt))) (λ κs. (array-tells R (LL.vals T.the-type T′.the-laws) (LL.tells T.the-type T′.the-laws) 64, (shr-slice-tells (named 0) (κs .0) u8, tt)))
       (λ κs qs bounds a g are. via 𝓤 _ (fst∗ 𝓤 _ (emp 𝓤)) (walk 𝓤 H A W at-mem run (κs .0) (qs .0) (a .0) (a .1 .0 .ptr .0) (a .1 .0 .ptr .1) (a .1 .0 .name) (a .1 .0 .now) (𝓣 .C) (𝓣 .Λ) (fmOf 𝓤 H (W .laws) 𝓣) known (are .0) (are .1 .0 .0 .1)))
 
   marked-meets : Meets 𝓤 H A marked′.signature (WpFn 𝓤 H (𝓣 .C) (𝓣 .Λ) code.function) (marked′.spec 𝓤 H A at-mem run)

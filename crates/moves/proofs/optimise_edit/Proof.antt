@@ -1,4 +1,4 @@
-use Rattle.moves.proofs.Moving.{edit-move, edit-remat, edit-espill, edit-ereload, edit-misplaced, edit-none}
+use Rattle.moves.proofs.Moving.{edit-move, edit-remat, edit-other}
 use borrow.Author.Needs.{needs}
 use Rattle.moves.proofs.optimise_edit.Statement.{statement}
 use Rattle.moves.proofs.optimise_edit.Tie as tie
@@ -12,12 +12,7 @@ optimise-edit-spec =
     (λ c κs. search needs)
     (λ c. search needs)
     (λ c κs. search needs)
-    (λ c. search needs)
     (λ c κs. search needs)
-    (λ c. search needs)
-    (λ c κs. search needs)
-    (λ c. search needs)
-    (λ c. search needs)
     (λ c. search needs)
     (λ c. search needs)
     (λ c. let a = c .before .before .before .before .before .before .before .before .before .before .before .before .before .before .before .before .args in
@@ -26,21 +21,10 @@ optimise-edit-spec =
     (c .before .before .before .before .optimise-move .ensures))
     (λ c. search needs)
     (λ c. search needs)
-    (λ c. let a = c .before .before .before .before .before .before .before .before .before .before .before .before .before .before .before .before .args in
-    edit-remat (a .b .0) (a .j .0) (c .before .before .before .before .before .before .before .before .before .before .before .read-edit .ensures)
+    (λ c. let a = c .before .before .before .before .before .before .before .before .before .before .before .before .before .before .before .before .before .args in
+    edit-remat (a .b .0) (a .j .0) (c .before .before .before .before .before .before .before .before .before .before .before .before .read-edit .ensures)
     (c .before .before .before .before .before .before .before .before .before .e2 .given .1)
     (c .before .before .before .before .optimise-move2 .ensures))
     (λ c. search needs)
     (λ c. let a = c .before .before .before .before .before .before .before .before .before .args in
-    edit-espill (a .b .0) (a .j .0) (c .before .before .before .before .read-edit .ensures) (c .effect .ensures)
-    (c .before .before .enum-told .given .1))
-    (λ c. search needs)
-    (λ c. let a = c .before .before .before .before .before .before .before .before .before .args in
-    edit-ereload (a .b .0) (a .j .0) (c .before .before .before .before .read-edit .ensures) (c .effect2 .ensures)
-    (c .before .before .enum-told2 .given .1))
-    (λ c. search needs)
-    (λ c. let a = c .before .before .before .before .before .before .before .args in
-    edit-misplaced (a .b .0) (a .j .0) (c .before .before .read-edit .ensures) (c .enum-told3 .given .1))
-    (λ c. search needs)
-    (λ c. let a = c .before .before .before .before .before .before .before .args in
-    edit-none (a .b .0) (a .j .0) (c .before .before .read-edit .ensures) (c .enum-told4 .given .1)))
+    edit-other (a .b .0) (a .j .0) (c .before .before .before .before .read-edit .ensures) (c .before .before .before .match .keys2) (c .before .before .match2 .keys2) (c .effect .ensures)))

@@ -1,4 +1,4 @@
-use Rattle.accept.proofs.Reaching.{reached-early, reached-last}
+use Rattle.accept.proofs.Reaching.{reach-next, reached-early, reached-last}
 use Rattle.accept.specs.Blocks.{reachSet}
 use Rattle.table.specs.Sheet.{sheetIn}
 use Rattle.table.specs.Index.{Ready}
@@ -30,10 +30,10 @@ lowest-unreached-spec =
     (λ c.
     let k = c .before .before in
     let l = k .before .before in
-    λ g. reached-early g _ _ (l .before .before .count .ensures) (l .loop .inv .0) (k .lowest-outside .ensures _ (l .loop .inv .1 g) g) (c .enum-told2 .given .1))
+    λ g. reached-early g _ _ (l .loop .inv .1 g) (k .lowest-outside .ensures) (c .enum-told2 .given .1))
     (λ c κs. search needs)
     (λ c. search needs)
     (λ c. search needs)
-    (λ c. (omega arith, λ g. c .further .ensures _ (c .before .before .before .before .before .loop .inv .1 g) g))
+    (λ c. (omega arith, λ g. reach-next _ _ _ _ (c .before .before .before .before .before .loop .inv .1 g) (c .further .ensures g)))
     (λ c κs. search needs)
-    (λ c. λ g. reached-last g _ _ (c .before .before .before .before .count .ensures) (c .before .before .loop .inv .0) (c .before .loop-test .left) (c .lowest-outside2 .ensures _ (c .before .before .loop .inv .1 g) g)))
+    (λ c. λ g. reached-last g _ _ _ (c .before .before .before .before .count .ensures) (c .before .before .loop .inv .0) (c .before .loop-test .left) (c .before .before .loop .inv .1 g) (c .lowest-outside2 .ensures)))

@@ -8,8 +8,8 @@ operand-holds-spec =
     tie.close
     (tie.spec
     (λ c κs. search needs)
-    (λ c. op-constraint _ _ _ (c .before .constraint-holds .ensures) (c .if1 .taken))
+    (λ c. λ q. op-constraint _ _ _ (c .before .constraint-holds .ensures) (c .if1 .taken))
     (λ c κs. search needs)
-    (λ c. op-fixed _ _ _ (c .before .fixed-holds .ensures) (c .if2 .taken))
+    (λ c. λ q. op-fixed _ _ _ (c .before .fixed-holds .ensures) (c .if2 .taken))
     (λ c κs. search needs)
-    (λ c. op-holds _ _ _ _ _ (c .before .before .before .before .constraint-holds .ensures) (c .before .before .before .if1 .left) (c .before .before .fixed-holds .ensures) (c .before .if2 .left) (c .group-holds .ensures)))
+    (λ c. λ q. op-holds _ _ _ _ _ (c .before .before .before .before .constraint-holds .ensures) (c .before .before .before .if1 .left) (c .before .before .fixed-holds .ensures) (c .before .if2 .left) (c .group-holds .ensures q)))

@@ -1,4 +1,4 @@
-use Rattle.accept.proofs.Pairing.{unordered, one-broken, all-held}
+use Rattle.accept.proofs.Pairing.{unordered, none-asked, one-broken, all-held}
 use borrow.Author.Needs.{needs}
 use Rattle.accept.proofs.edits.edits_hold.Statement.{statement}
 use Rattle.accept.proofs.edits.edits_hold.Tie as tie
@@ -10,6 +10,8 @@ edits-hold-spec =
     (λ c κs. search needs)
     (λ c. unordered _ _ (c .before .in-order .ensures) (c .if1 .taken))
     (λ c κs. search needs)
-    (λ c. one-broken _ _ (c .before .each-holds .ensures) (c .if2 .taken))
+    (λ c. none-asked _ _ _ (c .before .before .before .in-order .ensures) (c .before .before .if1 .left) (c .before .some-emergency .ensures) (c .if2 .taken))
     (λ c κs. search needs)
-    (λ c. all-held _ _ _ _ (c .before .before .before .before .in-order .ensures) (c .before .before .before .if1 .left) (c .before .before .each-holds .ensures) (c .before .if2 .left) (c .all-paired .ensures)))
+    (λ c. one-broken _ _ (c .before .each-holds .ensures) (c .if3 .taken))
+    (λ c κs. search needs)
+    (λ c. all-held _ _ _ _ (c .before .before .before .before .before .before .in-order .ensures) (c .before .before .before .before .before .if1 .left) (c .before .before .each-holds .ensures) (c .before .if3 .left) (c .all-paired .ensures)))

@@ -30,7 +30,15 @@ shared-units-spec =
     (λ c κs. search needs)
     (λ c κs. search needs)
     (λ c κs. search needs)
+    (λ c κs. search needs)
+    (λ c κs. search needs)
     (λ c. search needs)
     (λ c. search needs)
-    (λ c. (omega arith, seen-next _ _ _ _ _ (c .before .units2 .ensures) (c .before .before .before .before .before .loop .inv .1) (c .with-all .ensures), shared-next _ _ _ _ _ _ (c .before .before .before .units .ensures) (c .before .before .before .before .before .loop .inv .1) (c .before .before .before .before .before .loop .inv .2) (c .before .before .with-seen .ensures)))
+    (λ c.
+    let own = c .before .before .before in
+    let i = own .before .before .before .before .loop .inv in (
+      omega arith,
+      seen-next _ _ (own .before .before .empty3 .ensures) (own .before .units .ensures) (own .with-all .ensures) (i .1) (c .join2 .ensures),
+      shared-next _ _ (own .before .before .empty3 .ensures) (own .before .units .ensures) (own .with-all .ensures) (i .1) (i .2) (c .before .before .meet .ensures) (c .before .join .ensures),
+    ))
     (λ c. shared-end _ _ _ _ (c .before .before .before .before .count .ensures) (c .before .loop .inv .0) (c .loop-test .left) (c .before .loop .inv .2)))

@@ -17,4 +17,4 @@ render-spec =
     (λ c.
     let e = c .before .before .before .before .before .before in
     let k = e .before .before .before .before .before .before .before in
-    answered _ _ _ _ _ _ _ (λ i. k .before .before .shared-slice-known2 .given i .fits) (λ i. k .before .shared-slice-known3 .given i .fits) (λ i. k .shared-slice-known4 .given i .fits) (laid-then (laid-then (e .before .before .before .before .put-folds .ensures) (e .put-edits .ensures)) (c .before .before .put-counts .ensures))))
+    answered _ _ _ _ _ _ _ (λ i. k .shared-slice-known4 .given i .fits) (laid-then (laid-then (e .before .before .before .before .put-folds .ensures) (e .put-edits .ensures)) (c .before .before .put-counts .ensures))))

@@ -12,10 +12,10 @@ use Rattle.dead_spill_elimination.proofs.ends.settle.Statement.{stateme
 use Rattle.dead_spill_elimination.proofs.ends.settle.Tie as tie
 
 abbrev Inv-loop : tie.InvT-loop
-Inv-loop t edits places ends₀ wait₀ ends wait = Good (length wait₀) ends wait × ((f : Func) → Facts t edits places f (length wait₀) → Inv t edits places (length wait₀) f ends wait)
+Inv-loop t edits touched ends₀ wait₀ ends wait = Good (length wait₀) ends wait × ((f : Func) → Facts t edits touched f (length wait₀) → Inv t edits touched (length wait₀) f ends wait)
 
 abbrev μ-loop : tie.MeasureT-loop
-μ-loop t edits places ends₀ wait₀ ends wait = weight (2 ^ 64) ends wait
+μ-loop t edits touched ends₀ wait₀ ends wait = weight (2 ^ 64) ends wait
 
 pub settle-spec : {M : Type 1} → statement M
 settle-spec =

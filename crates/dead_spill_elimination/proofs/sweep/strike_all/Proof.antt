@@ -8,10 +8,10 @@ use Rattle.dead_spill_elimination.proofs.sweep.strike_all.Statement.{st
 use Rattle.dead_spill_elimination.proofs.sweep.strike_all.Tie as tie
 
 abbrev Inv-loop : tie.InvT-loop
-Inv-loop t edits places marks₀ counts₀ ends b₀ marks counts b = Overall t places ends edits marks₀ counts₀ marks counts b
+Inv-loop t edits touched marks₀ counts₀ ends b₀ marks counts b = Overall t touched ends edits marks₀ counts₀ marks counts b
 
 abbrev μ-loop : tie.MeasureT-loop
-μ-loop t edits places marks₀ counts₀ ends b₀ marks counts b = length ends - b
+μ-loop t edits touched marks₀ counts₀ ends b₀ marks counts b = length ends - b
 
 pub strike-all-spec : {M : Type 1} → statement M
 strike-all-spec =

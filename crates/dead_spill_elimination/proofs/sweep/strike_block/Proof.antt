@@ -4,10 +4,10 @@ use Rattle.dead_spill_elimination.proofs.sweep.strike_block.Statement.{
 use Rattle.dead_spill_elimination.proofs.sweep.strike_block.Tie as tie
 
 abbrev Inv-loop : tie.InvT-loop
-Inv-loop t edits places marks₀ counts₀ live₀ insts i₀ marks counts live i = Block t places insts edits marks₀ counts₀ (live₀ .0) marks counts (live .0) i
+Inv-loop t edits touched marks₀ counts₀ live₀ insts i₀ marks counts live i = Block t touched insts edits marks₀ counts₀ (live₀ .0) marks counts (live .0) i
 
 abbrev μ-loop : tie.MeasureT-loop
-μ-loop t edits places marks₀ counts₀ live₀ insts i₀ marks counts live i = i
+μ-loop t edits touched marks₀ counts₀ live₀ insts i₀ marks counts live i = i
 
 pub strike-block-spec : {M : Type 1} → statement M
 strike-block-spec =

@@ -12,4 +12,4 @@ strike-inst-spec =
     (λ c κs. search needs)
     (λ c. search needs)
     (λ c. search needs)
-    (λ c. λ w l k x p. inst-done w l _ _ _ (c .before .before .before .before .before .edit-rows .ensures) k x p (c .before .before .before .before .before .before .before .before .before-inst .ensures _ (k .low-uses) (p .wanted)) (c .before .before .before .before .strike-edits .ensures w _)))
+    (λ c. λ w l k x p. inst-done w l _ _ _ (c .before .before .before .before .before .edit-rows .ensures) k x p (c .before .before .before .before .before .before .before .before .before-inst .ensures _ (p .wanted)) (c .before .before .before .before .strike-edits .ensures w _)))

@@ -6,10 +6,10 @@ use Rattle.dead_spill_elimination.proofs.wanted.before_block.Statement.
 use Rattle.dead_spill_elimination.proofs.wanted.before_block.Tie as tie
 
 abbrev Inv-loop : tie.InvT-loop
-Inv-loop t edits places live₀ insts i₀ live i = Going (Lows t edits places) (stepBack t edits places) insts (live₀ .0) (live .0) i
+Inv-loop t edits touched live₀ insts i₀ live i = Going (Lows t edits) (stepBack t edits touched) insts (live₀ .0) (live .0) i
 
 abbrev μ-loop : tie.MeasureT-loop
-μ-loop t edits places live₀ insts i₀ live i = i
+μ-loop t edits touched live₀ insts i₀ live i = i
 
 pub before-block-spec : {M : Type 1} → statement M
 before-block-spec =

@@ -9,7 +9,7 @@ use Rattle.rules.specs.Forward.{Walk, Handed, begun}
 use Rattle.rules.specs.Sheet.{blockCount}
 use Rattle.table.specs.Sheet.{sheetIn}
 use Rattle.table.proofs.Sheets.{blocks-counted}
-use Rattle.states.specs.States.{Roomy, statesIn}
+use Rattle.states.specs.States.{statesIn}
 use Rattle.holders.specs.Holders.{Filled}
 use Rattle.moves.specs.Walks.{Ordered, Walked, allMost, blockMost}
 use Rattle.move_optimizer.proofs.BlockWalks.{Passing, passing-start}
@@ -20,7 +20,7 @@ use Rattle.move_optimizer.proofs.levels.global.Tie as tie
 abbrev Inv-loop : tie.InvT-loop
 Inv-loop t rec₀ classes states edits₀ places₀ counts₀ n b₀ rec edits places counts b =
     (length edits ≡ length edits₀) × (length places ≡ length places₀) × (length counts ≡ length counts₀)
-    × (Ordered t → Filled (sheetIn t) classes → (h : Handed) → Roomy states → statesIn states (blockCount (sheetIn t)) ≡ h .states → (m : ℕ) (w : Walk)
+    × (Ordered t → Filled (sheetIn t) classes → (h : Handed) → statesIn states (blockCount (sheetIn t)) ≡ h .states → (m : ℕ) (w : Walk)
     → Walked t rec₀ edits₀ places₀ counts₀ (m + blockMost * (n - b₀)) w
     → Passing (Walked t rec edits places counts) (blockwise (sheetIn t) (begun (sheetIn t) h)) blockMost m b n (run (blockwise (sheetIn t) (begun (sheetIn t) h)) w (from b₀ (n - b₀))))
 
@@ -35,23 +35,13 @@ global-spec =
     μ-loop
     (λ c κs. search needs)
     (λ c κs. search needs)
-    (λ c. (refl, refl, search needs, λ o f h r e m w x. passing-start _ _ _ _ _ w x))
+    (λ c. (refl, refl, search needs, λ o f h e m w x. passing-start _ _ _ _ _ w x))
     (λ c κs. search needs)
     (λ c. search needs)
     (λ c. search needs)
-    (λ c. (
-      search needs,
-      search needs,
-      search needs,
-      λ o f h r e m w x. block-next _ (c .before .before .before .before .before .before .before .before .before .before .before .before .loop-test .taken)
-          (block-begun _ _ h e (c .before .before .before .before .before .before .before .before .before .before .before .before .loop-test .taken)
-          (blocks-counted _ (c .before .before .before .before .before .before .before .before .before .before .before .before .before .before .count .ensures))
-          (c .before .before .before .before .before .before .optimise-handed .ensures o f r))
-          (c .before .before .before .before .before .before .before .before .before .before .before .before .before .loop .inv .3 o f h r e m w x),
-    ))
+    (λ c. (search needs, search needs, search needs, λ o f h e m w x. block-next _ (c .before .before .before .before .before .before .before .before .before .before .before .before .loop-test .taken) (block-begun _ _ h e (c .before .before .before .before .before .before .before .before .before .before .before .before .loop-test .taken) (blocks-counted _ (c .before .before .before .before .before .before .before .before .before .before .before .before .before .before .count .ensures)) (c .before .before .before .before .before .before .optimise-handed .ensures o f)) (c .before .before .before .before .before .before .before .before .before .before .before .before .before .loop .inv .3 o f h e m w x)))
     (λ c. search needs)
     (λ c. search needs)
     (λ c. search needs)
-    (λ c o f u n w x. global-end w (o .ready) (blocks-counted _ (c .before .before .count .ensures)) (c .loop-test .left)
-    (c .before .before .before .before .before .visits .ensures o u _ (n + allMost) w x)
-    (λ h r e m w x. c .before .loop .inv .3 o f h r e m w x)))
+    (λ c. search needs)
+    (λ c. λ o f u n w x. global-end w (o .ready) (blocks-counted _ (c .before .before .count .ensures)) (c .loop-test .left) (c .before .before .before .before .before .before .before .visits .ensures o u _ (n + allMost) w x) (λ h e m w x. c .before .loop .inv .3 o f h e m w x)))

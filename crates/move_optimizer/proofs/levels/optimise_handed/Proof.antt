@@ -13,5 +13,5 @@ optimise-handed-spec =
     (λ c. search needs)
     (λ c. search needs)
     (λ c. search needs)
-    (λ c o f r n w x. block-taken _ _ (λ l. c .before .before .before .before .before .before .before .before .before .before .before .take-in .ensures l r)
+    (λ c o f n w x. block-taken _ _ (c .before .before .before .before .before .before .before .before .before .before .before .take-in .ensures)
     (c .before .before .before .before .before .before .optimise-block .ensures o f) n w x))

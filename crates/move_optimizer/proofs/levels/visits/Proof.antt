@@ -17,7 +17,7 @@ use Rattle.move_optimizer.proofs.levels.visits.Tie as tie
 
 abbrev Inv-loop : tie.InvT-loop
 Inv-loop t rec₀ states₀ edits counts₀ w₀ most k₀ rec states counts w k =
-    (length counts ≡ length counts₀)
+    (length states ≡ length states₀) × (length counts ≡ length counts₀)
     × (Ordered t → (places : List ℕ) (n : ℕ) (wh : Walk × Handed) → Stands t rec₀ states₀ edits places counts₀ (w₀ .0) (n + most) wh
     → Walking t rec states edits places counts (w .0) n (most - k) (visits (sheetIn t) most wh))
 
@@ -34,27 +34,17 @@ visits-spec =
     (λ c. search needs)
     (λ c. search needs)
     (λ c. search needs)
-    (λ c. (refl, λ o places n wh st. walking-start wh st))
+    (λ c. (refl, refl, λ o places n wh st. walking-start wh st))
     (λ c κs. search needs)
     (λ c. search needs)
     (λ c κs. search needs)
     (λ c. search needs)
     (λ c. search needs)
-    (λ c o u places n w x. rw (capped _ (o .ready .limits) w) at (walking-stop _ (c .before .before .before .before .loop .k) (o .ready)
-    (c .before .before .before .before .loop .inv .1 o places n (w, globalStart _)
-    (record { walked = walked-fewer _ (omega arith) x; lies = c .before .before .before .before .before .global-start .ensures (o .ready) u }))
-    (sym (c .enum-told .given .1) ∙ c .before .before .lowest .ensures)))
+    (λ c. search needs)
+    (λ c. λ o u places n w x. rw (capped _ (o .ready .limits) w) at (walking-stop _ (c .before .before .before .before .loop .k) (o .ready) (c .before .before .before .before .loop .inv .2 o places n (w, globalStart _) (record { walked = walked-fewer _ (omega arith) x; lies = c .before .before .before .before .before .before .before .global-start .ensures (o .ready) u })) (sym (c .enum-told .given .1) ∙ c .before .before .lowest .ensures)))
     (λ c. search needs)
     (λ c. search needs)
-    (λ c. (
-      search needs,
-      λ o places n wh st. walking-again _ (c .before .before .before .before .before .before .before .before .before .before .before .loop .k)
-          (o .ready) (c .before .before .before .before .before .before .before .before .before .before .before .loop .inv .1 o places n wh st)
-          (sym (c .before .before .before .before .before .before .before .b .given .1) ∙ c .before .before .before .before .before .before .before .before .before .lowest .ensures)
-          (c .before .before .before .before .before .before .before .before .before .before .loop-test .taken)
-          (λ n wh u st. c .before .before .visit .ensures o places n u wh st),
-    ))
+    (λ c. (search needs, search needs, λ o places n wh st. walking-again _ (c .before .before .before .before .before .before .before .before .before .before .before .before .before .loop .k) (o .ready) (c .before .before .before .before .before .before .before .before .before .before .before .before .before .loop .inv .2 o places n wh st) (sym (c .before .before .before .before .before .before .before .before .before .b .given .1) ∙ c .before .before .before .before .before .before .before .before .before .before .before .lowest .ensures) (c .before .before .before .before .before .before .before .before .before .before .before .before .loop-test .taken) (λ n wh u st. c .before .before .before .before .visit .ensures o places n u wh st)))
     (λ c. search needs)
-    (λ c o u places n w x. rw (capped _ (o .ready .limits) w) at (walking-out _ (c .before .loop .k) (o .ready)
-    (c .before .loop .inv .1 o places n (w, globalStart _)
-    (record { walked = walked-fewer _ (omega arith) x; lies = c .before .before .global-start .ensures (o .ready) u })) (c .loop-test .left))))
+    (λ c. search needs)
+    (λ c. λ o u places n w x. rw (capped _ (o .ready .limits) w) at (walking-out _ (c .before .loop .k) (o .ready) (c .before .loop .inv .2 o places n (w, globalStart _) (record { walked = walked-fewer _ (omega arith) x; lies = c .before .before .before .before .global-start .ensures (o .ready) u })) (c .loop-test .left))))

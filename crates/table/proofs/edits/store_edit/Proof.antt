@@ -1,4 +1,4 @@
-use Rattle.table.proofs.Stored.{stored-move, stored-remat, stored-espill, stored-ereload, stored-misplaced, stored-none}
+use Rattle.table.proofs.Stored.{stored-move, stored-remat, stored-by, stored-misplaced, stored-none}
 use borrow.Author.Needs.{needs}
 use Rattle.table.proofs.edits.store_edit.Statement.{statement}
 use Rattle.table.proofs.edits.store_edit.Tie as tie
@@ -16,11 +16,7 @@ store-edit-spec =
     (λ c κs. search needs)
     (λ c. search needs)
     (λ c κs. search needs)
-    (λ c κs. search needs)
-    (λ c κs. search needs)
     (λ c. search needs)
-    (λ c κs. search needs)
-    (λ c κs. search needs)
     (λ c κs. search needs)
     (λ c. search needs)
     (λ c κs. search needs)
@@ -31,10 +27,10 @@ store-edit-spec =
     (λ c. search needs)
     (λ c. stored-remat _ _ (c .before .before .before .before .before .before .e2 .given .1) (c .before .before .before .place-cell3 .ensures) (c .before .before .store-cells2 .ensures))
     (λ c. search needs)
-    (λ c. stored-espill _ _ (c .before .before .before .before .before .before .before .e3 .given .1) (c .before .before .before .before .cell .ensures) (c .before .before .before .cell2 .ensures) (c .before .before .store-cells3 .ensures))
+    (λ c. stored-by _ _ (c .before .before .before .before .before .e3 .given .1) (c .before .before .store-espill .ensures))
     (λ c. search needs)
-    (λ c. stored-ereload _ _ (c .before .before .before .before .before .before .before .e4 .given .1) (c .before .before .before .before .cell3 .ensures) (c .before .before .before .cell4 .ensures) (c .before .before .store-cells4 .ensures))
+    (λ c. stored-by _ _ (c .before .before .before .before .before .e4 .given .1) (c .before .before .store-ereload .ensures))
     (λ c. search needs)
-    (λ c. stored-misplaced _ _ (c .before .before .before .before .enum-told .given .1) (c .before .before .store-cells5 .ensures))
+    (λ c. stored-misplaced _ _ (c .before .before .before .before .enum-told .given .1) (c .before .before .store-cells3 .ensures))
     (λ c. search needs)
-    (λ c. stored-none _ _ (c .before .before .before .before .enum-told2 .given .1) (c .before .before .store-cells6 .ensures)))
+    (λ c. stored-none _ _ (c .before .before .before .before .enum-told2 .given .1) (c .before .before .store-cells4 .ensures)))

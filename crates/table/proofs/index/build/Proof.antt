@@ -43,7 +43,6 @@ same-length c = search needs
 returns : tie.Need-returns
 returns c =
     builds _ _ _ _ _ _ _ _ (c .before .before .before .before .before .before .before .before .before .before .before .before .before .before .before .before .before .before .before .before .before .before .before .before .before .before .fill-insts .ensures) (c .before .before .before .before .before .before .before .before .before .before .before .before .before .before .before .before .before .before .before .before .before .before .fill .ensures) (c .before .before .before .before .before .before .before .before .before .before .before .before .before .before .before .before .before .before .fill2 .ensures) (c .before .before .before .before .before .before .before .before .before .before .before .before .before .before .fill3 .ensures) (c .before .before .before .before .before .before .before .before .before .before .fill4 .ensures) (c .before .before .before .before .before .before .fill5 .ensures) (c .before .before .fill6 .ensures)
-    (c .before .before .before .before .before .before .before .before .before .before .before .before .before .before .before .before .before .before .before .before .before .before .before .before .before .before .fill-insts .kept .0) (c .before .before .before .before .before .before .before .before .before .before .before .before .before .before .before .before .before .before .before .before .before .before .fill .kept .0) (c .before .before .before .before .before .before .before .before .before .before .before .before .before .before .before .before .before .before .fill2 .kept .0) (c .before .before .before .before .before .before .before .before .before .before .before .before .before .before .fill3 .kept .0) (c .before .before .before .before .before .before .before .before .before .before .fill4 .kept .0) (c .before .before .before .before .before .before .fill5 .kept .0)
 
 pub build-spec : {M : Type 1} → statement M
 build-spec =

@@ -8,11 +8,10 @@ pub row-spec : {M : Type 1} → statement M
 row-spec =
     tie.close
     (tie.spec
-    (λ c. search needs)
     (λ c κs. search needs)
     (λ c. search needs)
     (λ c. search needs)
     (λ c κs. search needs)
     (λ c. search needs)
     (λ c κs. search needs)
-    (λ c. c .part .ensures ∙ row-part _ (c .before .before .read-u32 .ensures) (c .before .read-u322 .ensures)))
+    (λ c. c .part .ensures ∙ row-part _ (c .before .before .start .ensures) (c .before .start2 .ensures)))

@@ -1,6 +1,6 @@
 use borrow.Author.Tests.{ne-eqb}
-use Rattle.rules.specs.Words.{defWord, earlyWord}
-use Rattle.rules.proofs.Words.{defgWord, earlygWord, useWord, usegWord}
+use Rattle.rules.specs.Words.{defWord, earlyWord, useWord}
+use Rattle.rules.proofs.Words.{defgWord, earlygWord, usegWord}
 use Rattle.rules.specs.Cells.{word, words, find}
 use Rattle.rules.specs.Sheet.{kindOf}
 use Rattle.table.proofs.view.kind_of.Statement.{statement}
