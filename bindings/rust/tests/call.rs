@@ -64,7 +64,10 @@ fn a_person_reads_it() {
     let values: String = (0..21).map(|v| format!("value,{v},-\r\n")).collect();
     let sheet = format!("slots,0\r\n{values}block,0,1,0,1\r\n");
     let refusal = clean(sheet.as_bytes(), Level::Local, true, &mut []).unwrap_err();
-    assert_eq!(refusal.to_string(), "refusal 11 at row 23: sole predecessor or idom not smaller than its block");
+    assert_eq!(
+        refusal.to_string(),
+        "refusal 11 at row 23: sole predecessor or idom not smaller than its block"
+    );
 }
 
 #[test]
