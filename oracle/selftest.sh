@@ -2,7 +2,8 @@
 # Builds both profiles and runs every check of the oracle once; status 0 if all is well.
 #   oracle/selftest.sh [SEED [N [DEBUG_N]]]
 # N generated and N damaged cases (5,000), and DEBUG_N accepted ones for the build with
-# debug assertions (20,000). The cases are left in oracle/target/cases.
+# debug assertions (20,000). The cases are left in oracle/target/cases. With REQUESTS=2 the
+# same with request 2, up to the library.
 set -eu
 cd "$(dirname "$0")"
 SEED=${1:-1}
@@ -55,6 +56,11 @@ done
 echo "release and debug builds answer alike"
 
 echo "== the library"
+if [ -n "${REQUESTS:-}" ]; then
+  echo "not compared: it does not know request $REQUESTS"
+  echo "selftest: all well"
+  exit 0
+fi
 for f in worked edges worst good damaged; do
   status=0
   $O compare "$C/$f" || status=$?

@@ -1,4 +1,4 @@
-//! The refusals 2 to 6 and 9 to 12 of a sheet whose rows are whole, with the row of the
+//! The refusals 2 to 6 and 9 to 13 of a sheet whose rows are whole, with the row of the
 //! block concerned. Each check may lean on the ones before it. why.rs writes the same
 //! rules a second time.
 
@@ -17,6 +17,8 @@ impl Sheet {
             Some(5)
         } else if self.edits_wrong() {
             Some(6)
+        } else if self.recipes.iter().any(recipe_wrong) {
+            Some(13)
         } else {
             None
         }
@@ -49,8 +51,16 @@ impl Sheet {
             || self.edits.len() > MAX_EDITS
             || self.regs.iter().any(|r| over(&r.units))
             || self.clobs.iter().any(|c| over(&c.1))
-            || self.ops.iter().any(|o| matches!(o.con, Con::Reuse(i) if i > MAX_REUSE))
+            || self.ops.iter().any(|o| reuse_over(o.con))
+            || self
+                .recipes
+                .iter()
+                .any(|r| reuse_over(r.con) || r.inputs.iter().any(|i| reuse_over(i.con)))
     }
+}
+
+fn reuse_over(con: Con) -> bool {
+    matches!(con, Con::Reuse(i) if i > MAX_REUSE)
 }
 
 // ---- 3 -----------------------------------------------------------------------------
@@ -75,6 +85,21 @@ impl Sheet {
         }
     }
 
+    fn has_subject(&self, kind: OpKind, x: u32) -> bool {
+        match kind {
+            OpKind::Def | OpKind::Use | OpKind::Early => self.has_value(x),
+            OpKind::DefG | OpKind::UseG | OpKind::EarlyG => (x as usize) < self.vgroups.len(),
+            OpKind::Fixed => true,
+        }
+    }
+    fn has_constraint(&self, con: Con) -> bool {
+        match con {
+            Con::Class(c) => self.has_class(c),
+            Con::Fixed(x) => self.has_reg(x),
+            Con::Reuse(_) => true,
+        }
+    }
+
     fn names_wrong(&self) -> bool {
         self.machine_names_wrong() || self.block_names_wrong() || self.body_names_wrong()
     }
@@ -87,6 +112,15 @@ impl Sheet {
             || self.groups_share_a_start()
             || self.homes.iter().any(|h| h.is_some_and(|s| s >= self.slots))
             || self.vgroups.iter().any(|g| g.iter().any(|&v| !self.has_value(v)) || has_twice(g))
+            || self.recipes.iter().any(|r| self.recipe_names_wrong(r))
+    }
+
+    fn recipe_names_wrong(&self, r: &Recipe) -> bool {
+        !self.has_value(r.value)
+            || !self.has_constraint(r.con)
+            || r.inputs
+                .iter()
+                .any(|i| !self.has_subject(i.kind, i.subject) || !self.has_constraint(i.con))
     }
 
     fn groups_share_a_start(&self) -> bool {
@@ -118,19 +152,9 @@ impl Sheet {
     }
 
     fn op_names_wrong(&self, o: &Op) -> bool {
-        let subject = match o.kind {
-            OpKind::Def | OpKind::Use | OpKind::Early => self.has_value(o.subject),
-            OpKind::DefG | OpKind::UseG | OpKind::EarlyG => {
-                (o.subject as usize) < self.vgroups.len()
-            }
-            OpKind::Fixed => true,
-        };
-        let con = match o.con {
-            Con::Class(c) => self.has_class(c),
-            Con::Fixed(x) => self.has_reg(x),
-            Con::Reuse(_) => true,
-        };
-        !subject || !con || !self.has_place(o.place)
+        !self.has_subject(o.kind, o.subject)
+            || !self.has_constraint(o.con)
+            || !self.has_place(o.place)
     }
 
     fn edit_names_wrong(&self, e: Edit) -> bool {
@@ -139,6 +163,11 @@ impl Sheet {
                 !self.has_place(to) || !self.has_place(from) || !self.has_value(value)
             }
             Edit::Remat { to, value } => !self.has_place(to) || !self.has_value(value),
+            Edit::Irem { to, value, inputs } => {
+                !self.has_place(to)
+                    || !self.has_value(value)
+                    || inputs.iter().any(|&p| !self.has_place(p))
+            }
             Edit::Espill { to, from } | Edit::Ereload { to, from } => {
                 !self.has_place(to) || !self.has_place(from)
             }
@@ -200,7 +229,8 @@ impl Sheet {
     /// values, and the blocks before it stand above.
     fn block_row(&self, b: usize) -> u32 {
         let machine = self.regs.len() + self.classes.len() + self.groups.len();
-        (1 + machine + self.homes.len() + self.vgroups.len() + b + 1) as u32
+        let recipes: usize = self.recipes.iter().map(|r| 1 + r.inputs.len()).sum();
+        (1 + machine + self.homes.len() + self.vgroups.len() + recipes + b + 1) as u32
     }
 
     fn reached(&self, succs: &Blocks) -> u64 {
@@ -314,4 +344,18 @@ impl Sheet {
             .enumerate()
             .any(|(x, r)| x != reg as usize && r.units.iter().any(|u| units.contains(u)))
     }
+}
+
+// ---- 13 ----------------------------------------------------------------------------
+
+fn recipe_wrong(r: &Recipe) -> bool {
+    r.inputs.iter().enumerate().any(|(at, i)| {
+        let reused = r.con == Con::Reuse(at as u32);
+        match (i.kind, i.con) {
+            (_, Con::Reuse(_)) => true,
+            (OpKind::Use, _) => false,
+            (OpKind::UseG, Con::Class(_)) | (OpKind::Fixed, Con::Fixed(_)) => reused,
+            _ => true,
+        }
+    })
 }

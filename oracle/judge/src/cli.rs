@@ -13,6 +13,7 @@ use crate::edges;
 use crate::frames::{self, Answer, Case};
 use crate::model;
 use crate::mutate;
+use crate::requests;
 use crate::rng::Rng;
 use crate::run;
 use crate::sheet::MAX_SHEET;
@@ -42,6 +43,7 @@ oracle worst [ROUNDS]                     sheets that press on one step each, ti
 oracle worst cases                        these sheets
 oracle show CASES K                       sheet number K (from 0) on stdout, its call on stderr
 oracle pick CASES K..                     the cases of these numbers as a case file
+With REQUESTS=2 in the environment all of them know request 2 of document 02.
 CASES is a file, or - for stdin. Exit status: 0 well, 1 something differs, 2 cannot run.";
 
 /// Whether all is well, or why the command cannot run.
@@ -50,7 +52,7 @@ type Ended = Result<bool, String>;
 pub fn main(clean: Option<Clean>) {
     let args: Vec<String> = std::env::args().skip(1).collect();
     let words: Vec<&str> = args.iter().map(|a| a.as_str()).collect();
-    match command(&words, clean) {
+    match requests::refused().map_or_else(|| command(&words, clean), Err) {
         Ok(good) => exit(!good as i32),
         Err(why) => {
             eprintln!("{why}");

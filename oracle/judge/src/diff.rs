@@ -4,7 +4,7 @@
 use std::panic::{self, AssertUnwindSafe};
 
 use crate::frames::Case;
-use crate::rules::{self, QUIRKS};
+use crate::rules;
 use crate::run::{self, Outcome};
 use crate::sheet::Sheet;
 use crate::small;
@@ -76,14 +76,15 @@ pub fn small(items: usize) -> bool {
 
 /// How many cases show each mistake; false if the rules without one differ anywhere.
 pub fn quirks(cases: &[Case]) -> bool {
-    let mut shown = vec![0usize; QUIRKS.len() + 1];
-    let mut smallest: Vec<Option<(usize, usize)>> = vec![None; QUIRKS.len() + 1];
+    let names = rules::quirks();
+    let mut shown = vec![0usize; names.len() + 1];
+    let mut smallest: Vec<Option<(usize, usize)>> = vec![None; names.len() + 1];
     let mut ran = 0;
     for (k, c) in cases.iter().enumerate() {
         let Ok(s) = run::accept(c) else { continue };
         ran += 1;
         let right = run::try_run(&s, c.level, c.sweep);
-        for q in 0..=QUIRKS.len() {
+        for q in 0..=names.len() {
             if try_rules(&s, c.level, c.sweep, q as u32) != right {
                 shown[q] += 1;
                 let this = (c.sheet.len(), k);
@@ -93,7 +94,7 @@ pub fn quirks(cases: &[Case]) -> bool {
     }
     println!("{ran} accepted cases; without a mistake {} differ", shown[0]);
     println!("   shown  smallest case");
-    for (q, name) in QUIRKS.iter().enumerate() {
+    for (q, name) in names.iter().enumerate() {
         let at = smallest[q + 1].map_or("-".into(), |(len, k)| format!("{k} ({len} bytes)"));
         println!("{:>8}  {at:24} {name}", shown[q + 1]);
     }

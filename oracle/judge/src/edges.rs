@@ -1,9 +1,11 @@
 //! Smallest sheets for single rules, with the answer that each must have: a list made
-//! by hand, and the tables of the project's papers.
+//! by hand, and the tables of the project's papers; with request 2 those of its
+//! readings as well.
 
 use crate::frames::{Case, from_rows, to_rows};
 use crate::internal::move_optimizer::MoveOptimizer;
 use crate::read::read;
+use crate::requests;
 use crate::run;
 use crate::sheet::{MAX_SHEET, Sheet};
 
@@ -60,10 +62,94 @@ pub fn check() -> Result<bool, String> {
     Ok(bad == 0 && reuse && asserted)
 }
 
+const PAPERS: [&str; 2] = ["DECISIONS.md", "DIFFERENCES.md"];
+
 pub fn all() -> Result<Vec<Edge>, String> {
     let mut all = by_hand();
-    for paper in ["DECISIONS.md", "DIFFERENCES.md"] {
-        all.extend(in_paper(paper)?);
+    for paper in PAPERS {
+        all.extend(in_paper(paper, false)?);
+    }
+    if requests::recipes() {
+        all.iter_mut().for_each(Edge::count_ten);
+        all.extend(recipe_sizes());
+        all.extend(in_readings(include_str!("../readings/request-2"))?);
+        for paper in PAPERS {
+            all.extend(in_paper(paper, true)?);
+        }
+    }
+    Ok(all)
+}
+
+// ---- request 2 ---------------------------------------------------------------------
+
+const TENTH: &[u8] = b",0";
+
+impl Edge {
+    /// The tenth count: 0 where there is no recipe, so each answer is two bytes longer.
+    /// The buffer gets two bytes more, so that it holds the answer if it held it before.
+    fn count_ten(&mut self) {
+        self.case.cap += TENTH.len();
+        match &mut self.want {
+            Want::Returns(n) if *n >= 0 => *n += TENTH.len() as i64,
+            Want::Returns(_) => {}
+            Want::Bytes(b) => {
+                let end = b.len() - 2;
+                b.splice(end..end, TENTH.iter().copied());
+            }
+        }
+    }
+}
+
+/// As many inputs and as long answers as a sheet can have.
+fn recipe_sizes() -> Vec<Edge> {
+    let mut l = List { all: vec![] };
+    let end = "block,0,1,-,1";
+    for n in [2049, 4092] {
+        let rins = "rin,0,use,0,c0 / ".repeat(n);
+        let rows = format!("slots,0 / class,0,0 / value,0,- / iremat,0,c0,0 / {rins}{end}");
+        l.rows(&format!("{n} rin rows"), &rows, 27);
+    }
+    let rins = "rin,0,fixed,-,f0 / ".repeat(100);
+    let ops = " / op,0,fixed,-,f0,r0".repeat(2048);
+    let machine = "slots,0 / reg,0,0,0 / value,0,- / iremat,0,f0,0";
+    l.rows("2,048 op rows and 100 rin rows", &format!("{machine} / {rins}{end}{ops}"), 27);
+    for (n, want) in [(21_823, 65_516), (21_824, -1)] {
+        let rows = "slots,1 / reg,0,0,0 / value,0,- / block,0,1,-,1 / edit,0,irem,s0,-,0";
+        let sheet = from_rows(&format!("{rows}{}", ",r0".repeat(n)));
+        l.raw(&format!("an irem of {n} inputs"), &sheet, 0, 0, MAX_SHEET, want);
+    }
+    let rebuilt = |edits: usize, inputs: usize| {
+        let values = "slots,1 / reg,0,0,0 / class,0,1,0 / value,0,- / value,1,- / iremat,0,c0,0";
+        let rins = " / rin,0,use,1,c0".repeat(inputs);
+        let loads = " / edit,0,move,s0,s0,0".repeat(edits);
+        from_rows(&format!("{values}{rins} / {end} / param,0,1,r0{loads}"))
+    };
+    let longest = rebuilt(1024, 2745);
+    assert_eq!(longest.len(), 65_523);
+    l.raw("1,024 edits rebuilt from 2,745 inputs", &longest, 1, 0, 8_453_150, 8_453_150);
+    l.raw("8 the same, into 65,536 bytes", &longest, 1, 0, MAX_SHEET, -8);
+    l.raw("8 129 edits rebuilt from 169 inputs", &rebuilt(129, 169), 1, 0, MAX_SHEET, -8);
+    l.all
+}
+
+/// Pieces of a `sheet`, a `call` and an `answer` line; a line with `#` names those after it.
+fn in_readings(text: &str) -> Result<Vec<Edge>, String> {
+    let mut all: Vec<Edge> = vec![];
+    let (mut name, mut count, mut piece) = ("", 0, vec![]);
+    for line in text.lines() {
+        match line.split_once(' ').map(|(word, rest)| (word, rest.trim())) {
+            Some(("#", rest)) => (name, count) = (rest, 0),
+            Some(("sheet" | "call", rest)) => piece.push(rest),
+            Some(("answer", answer)) => {
+                let [sheet, call] = piece[..] else { return Err(format!("broken: {line}")) };
+                count += 1;
+                let name = format!("reading {name}, sheet {count}");
+                let edge = edge_of(name, sheet, call, answer);
+                all.push(edge.ok_or_else(|| format!("broken: {call}"))?);
+                piece.clear();
+            }
+            _ => {}
+        }
     }
     Ok(all)
 }
@@ -72,17 +158,33 @@ pub fn all() -> Result<Vec<Edge>, String> {
 
 /// The rows of a paper's tables whose last three cells are a sheet, a call (`LEVEL
 /// SWEEP`, perhaps the buffer's length) and an answer, each in backticks and nothing
-/// else. An answer is a refusal as a negative number, or rows.
-fn in_paper(name: &str) -> Result<Vec<Edge>, String> {
+/// else. An answer is a refusal as a negative number, or rows. Those of request 2 stand
+/// under a heading of its own.
+fn in_paper(name: &str, request_2: bool) -> Result<Vec<Edge>, String> {
     let path = format!("{}/../../docs/{name}", env!("CARGO_MANIFEST_DIR"));
     let text = std::fs::read_to_string(&path).map_err(|e| format!("{path}: {e}"))?;
-    Ok(text.lines().filter_map(|line| table_row(name, line)).collect())
+    let mut all = vec![];
+    let mut here = false;
+    for line in text.lines() {
+        if line.starts_with("## ") {
+            here = line.starts_with("## Request 2");
+        }
+        if here == request_2 {
+            all.extend(table_row(name, line));
+        }
+    }
+    Ok(all)
 }
 
 fn table_row(paper: &str, line: &str) -> Option<Edge> {
     let cells: Vec<&str> = line.trim().strip_prefix('|')?.strip_suffix('|')?.split('|').collect();
     let [first, .., sheet, call, answer] = cells[..] else { return None };
-    let (sheet, call, answer) = (code(sheet)?, code(call)?, code(answer)?);
+    let name = format!("docs/{paper} {}", first.trim());
+    edge_of(name, code(sheet)?, code(call)?, code(answer)?)
+}
+
+/// The rows of a sheet, a call and its answer as the papers write them.
+fn edge_of(name: String, sheet: &str, call: &str, answer: &str) -> Option<Edge> {
     let numbers: Vec<usize> = call.split(' ').map(|n| n.parse().ok()).collect::<Option<_>>()?;
     let (level, sweep, cap) = match numbers[..] {
         [level, sweep] => (level, sweep, MAX_SHEET),
@@ -94,7 +196,7 @@ fn table_row(paper: &str, line: &str) -> Option<Edge> {
         Err(_) => Want::Bytes(from_rows(answer)),
     };
     let case = Case { level: level as u32, sweep: sweep as u32, cap, sheet: from_rows(sheet) };
-    Some(Edge { name: format!("docs/{paper} {}", first.trim()), case, want })
+    Some(Edge { name, case, want })
 }
 
 /// The text of a cell that is one piece of code.
@@ -121,9 +223,9 @@ fn reuse_shows() -> bool {
     let fresh = answer(&second, &mut MoveOptimizer::new());
     let mut used = MoveOptimizer::new();
     answer(&first, &mut used);
-    fresh == "edit,0,move,r0,r0,0 / edit,1,move,r0,r0,0 / count,0,0,0,0,0,0,0,0,0"
-        && answer(&second, &mut used)
-            == "edit,0,move,r0,r0,0 / edit,1,none,-,-,- / count,0,0,1,0,0,0,0,0,0"
+    let kept = "edit,0,move,r0,r0,0 / edit,1,move,r0,r0,0 / count,0,0,0,0,0,0,0,0,0";
+    let gone = "edit,0,move,r0,r0,0 / edit,1,none,-,-,- / count,0,0,1,0,0,0,0,0,0";
+    fresh.starts_with(kept) && answer(&second, &mut used).starts_with(gone)
 }
 
 /// A sheet that 6 refuses, given to the originals past the checks: its emergency slot

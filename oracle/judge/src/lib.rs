@@ -97,6 +97,7 @@ mod machine;
 mod model;
 mod mutate;
 mod read;
+mod requests;
 mod rng;
 mod rules;
 pub mod run;

@@ -10,7 +10,7 @@ use crate::reginfo::{
     PhysReg, PhysRegSet, RegBank, RegClass, RegClassSet, RegGroup, RegGroupSet, RegInfo, RegUnit,
     SpillSlotSize,
 };
-use crate::sheet::{Class, Con, Op, OpKind, Sheet};
+use crate::sheet::{Class, Con, OpKind, Recipe, Sheet};
 
 // ---- the sheet as `Function` --------------------------------------------------------
 
@@ -30,6 +30,21 @@ pub struct SheetFunc {
     clobber_at: Vec<u32>,
     values: usize,
     vgroups: Vec<Vec<Value>>,
+    /// Per value.
+    recipes: Vec<Option<SheetRecipe>>,
+}
+
+struct SheetRecipe {
+    constraint: OperandConstraint,
+    inputs: Vec<Operand>,
+    overlap: bool,
+}
+
+impl SheetRecipe {
+    fn new(r: &Recipe) -> Self {
+        let inputs = r.inputs.iter().map(|i| operand(i.kind, i.subject, i.con)).collect();
+        Self { constraint: constraint(r.con), inputs, overlap: r.overlap }
+    }
 }
 
 impl SheetFunc {
@@ -45,6 +60,9 @@ impl SheetFunc {
             preds: sheet.neighbours(&sheet.preds).iter().map(|l| keys(l)).collect(),
             values: sheet.homes.len(),
             vgroups: sheet.vgroups.iter().map(|l| keys(l)).collect(),
+            recipes: (0..sheet.homes.len() as u32)
+                .map(|v| sheet.recipe(v).map(SheetRecipe::new))
+                .collect(),
             ..Self::default()
         };
         f.take_blocks(sheet);
@@ -71,7 +89,8 @@ impl SheetFunc {
             self.operand_at.push(self.operands.len() as u32);
             self.clobber_at.push(self.clobbers.len() as u32);
             while op < sheet.ops.len() && sheet.ops[op].inst == inst {
-                self.operands.push(operand(&sheet.ops[op]));
+                let o = &sheet.ops[op];
+                self.operands.push(operand(o.kind, o.subject, o.con));
                 op += 1;
             }
             if clob < sheet.clobs.len() && sheet.clobs[clob].0 == inst {
@@ -94,9 +113,9 @@ fn keys<T: EntityRef>(l: &[u32]) -> Vec<T> {
     l.iter().map(|&n| T::new(n as usize)).collect()
 }
 
-fn operand(o: &Op) -> Operand {
-    let n = o.subject as usize;
-    let kind = match o.kind {
+fn operand(kind: OpKind, subject: u32, con: Con) -> Operand {
+    let n = subject as usize;
+    let kind = match kind {
         OpKind::Def => OperandKind::Def(Value::new(n)),
         OpKind::Use => OperandKind::Use(Value::new(n)),
         OpKind::Early => OperandKind::EarlyDef(Value::new(n)),
@@ -105,12 +124,15 @@ fn operand(o: &Op) -> Operand {
         OpKind::EarlyG => OperandKind::EarlyDefGroup(ValueGroup::new(n)),
         OpKind::Fixed => OperandKind::NonAllocatable,
     };
-    let con = match o.con {
+    Operand::new(kind, constraint(con))
+}
+
+fn constraint(con: Con) -> OperandConstraint {
+    match con {
         Con::Class(c) => OperandConstraint::Class(RegClass::new(c as usize)),
         Con::Fixed(r) => OperandConstraint::Fixed(PhysReg::new(r as usize)),
         Con::Reuse(i) => OperandConstraint::Reuse(i as usize),
-    };
-    Operand::new(kind, con)
+    }
 }
 
 impl Function for SheetFunc {
@@ -156,8 +178,13 @@ impl Function for SheetFunc {
     fn value_group_members(&self, group: ValueGroup) -> &[Value] {
         &self.vgroups[group.index()]
     }
-    fn can_indirectly_rematerialize(&self, _value: Value) -> Option<IndirectRemat<'_>> {
-        None
+    fn can_indirectly_rematerialize(&self, value: Value) -> Option<IndirectRemat<'_>> {
+        let r = self.recipes[value.index()].as_ref()?;
+        Some(IndirectRemat {
+            constraint: r.constraint,
+            inputs: &r.inputs,
+            allow_destination_overlap: r.overlap,
+        })
     }
 
     // Not asked for by the two modules.

@@ -54,6 +54,17 @@ impl State {
                 let w = (0..128).map(|k| mix(&[7, value as u64, k])).collect();
                 self.write(s, to, w);
             }
+            Edit::Irem { to, value, inputs } => {
+                // Lengths too: two lists are not one.
+                let mut read = vec![11, value as u64];
+                for &p in inputs.iter() {
+                    let words = self.read(s, p);
+                    read.push(words.len() as u64);
+                    read.extend(words);
+                }
+                let seen = mix(&read);
+                self.write(s, to, (0..128).map(|k| mix(&[13, seen, k])).collect());
+            }
             Edit::None => {}
         }
     }
@@ -252,6 +263,16 @@ fn is_read(
                         stays = false;
                     }
                 }
+                Edit::Irem { to, inputs, .. } => {
+                    if inputs.contains(&here) {
+                        match to {
+                            Place::Reg(_) => return true,
+                            Place::Slot(t) => work.push((b, i + 1, t)),
+                        }
+                    } else if to == here {
+                        stays = false;
+                    }
+                }
                 Edit::Ereload { from, .. } if from == here => return true,
                 Edit::Remat { to, .. } | Edit::Espill { to, .. } if to == here => stays = false,
                 _ => {}
@@ -292,7 +313,9 @@ fn exact_one(s: &Sheet, after: &[(u32, Edit)], t: &mut Tally) {
         for (i, &step) in list.iter().enumerate() {
             let Step::Edit(e) = step else { continue };
             match s.edits[e].1 {
-                Edit::Move { to: Place::Slot(x), .. } | Edit::Remat { to: Place::Slot(x), .. } => {
+                Edit::Move { to: Place::Slot(x), .. }
+                | Edit::Remat { to: Place::Slot(x), .. }
+                | Edit::Irem { to: Place::Slot(x), .. } => {
                     let gone = after[e].1 == Edit::None;
                     t.kept += !gone as usize;
                     t.gone += gone as usize;

@@ -1,5 +1,6 @@
 //! A sheet's bytes to its rows, or refusal 1. What the rows mean is left to accept.rs.
 
+use crate::requests;
 use crate::sheet::*;
 
 /// The rows of a sheet, or the first thing that is broken (refusal 1).
@@ -40,13 +41,16 @@ fn next_row(rest: &[u8]) -> Option<(&[u8], &[u8])> {
     (rest[end] == b'\r').then_some((&rest[..end], &rest[lf + 1..]))
 }
 
-/// Position of a kind in the paper's order.
+/// Position of a kind in the paper's order. A `rin` stands where an `iremat` may; whose
+/// it is, its row tells.
 fn kind_rank(kind: &[u8]) -> Option<usize> {
-    const ORDER: [&[u8]; 13] = [
-        b"slots", b"reg", b"class", b"group", b"value", b"vgroup", b"block", b"succ", b"pred",
-        b"param", b"op", b"clob", b"edit",
+    const ORDER: [&[u8]; 14] = [
+        b"slots", b"reg", b"class", b"group", b"value", b"vgroup", b"iremat", b"block", b"succ",
+        b"pred", b"param", b"op", b"clob", b"edit",
     ];
-    ORDER.iter().position(|&k| k == kind)
+    let kind = if kind == b"rin" { b"iremat" } else { kind };
+    let rank = ORDER.iter().position(|&k| k == kind)?;
+    (kind != b"iremat" || requests::recipes()).then_some(rank)
 }
 
 // ---- fields ------------------------------------------------------------------------
@@ -138,6 +142,21 @@ fn read_row(sheet: &mut Sheet, f: &[&[u8]]) -> Option<()> {
             counts(g, sheet.vgroups.len())?;
             sheet.vgroups.push(members(values)?);
         }
+        (b"iremat", [value, con, overlap]) => {
+            let value = number(value)?;
+            if sheet.recipes.last().is_some_and(|last| last.value >= value) {
+                return None;
+            }
+            let (con, overlap) = (constraint(con)?, flag(overlap)?);
+            sheet.recipes.push(Recipe { value, con, overlap, inputs: vec![] });
+        }
+        (b"rin", [value, kind, subject, con]) => {
+            let value = number(value)?;
+            let recipe = sheet.recipes.last_mut().filter(|last| last.value == value)?;
+            let kind = op_kind(kind)?;
+            let (subject, con) = (subject_of(kind, subject)?, constraint(con)?);
+            recipe.inputs.push(Rin { kind, subject, con });
+        }
         (b"block", [b, insts, idom, entry]) => {
             counts(b, sheet.blocks.len())?;
             let (insts, idom, entry) = (number(insts)?, number_or_dash(idom)?, flag(entry)?);
@@ -155,6 +174,12 @@ fn read_row(sheet: &mut Sheet, f: &[&[u8]]) -> Option<()> {
             let op = read_op(inst, op_kind(kind)?, subject, con, at)?;
             never_falls(sheet.ops.last().map(|last| last.inst), op.inst)?;
             sheet.ops.push(op);
+        }
+        (b"edit", [inst, b"irem", to, from, value, inputs @ ..]) if requests::recipes() => {
+            dash(from)?;
+            let inputs: Vec<Place> = inputs.iter().map(|x| place(x)).collect::<Option<_>>()?;
+            let (to, value, inputs) = (place(to)?, number(value)?, Inputs::new(&inputs));
+            sheet.edits.push((number(inst)?, Edit::Irem { to, value, inputs }));
         }
         (b"edit", [inst, kind, to, from, value]) => {
             sheet.edits.push((number(inst)?, read_edit(kind, to, from, value)?));
@@ -182,13 +207,12 @@ fn push_rising(rows: &mut Vec<(u32, Vec<u32>)>, first: &[u8], list: &[&[u8]]) ->
 }
 
 fn read_op(inst: &[u8], kind: OpKind, subject: &[u8], con: &[u8], at: &[u8]) -> Option<Op> {
-    let subject = if kind == OpKind::Fixed {
-        dash(subject)?;
-        0
-    } else {
-        number(subject)?
-    };
+    let subject = subject_of(kind, subject)?;
     Some(Op { inst: number(inst)?, kind, subject, con: constraint(con)?, place: place(at)? })
+}
+
+fn subject_of(kind: OpKind, field: &[u8]) -> Option<u32> {
+    if kind == OpKind::Fixed { dash(field).map(|_| 0) } else { number(field) }
 }
 
 fn read_edit(kind: &[u8], to: &[u8], from: &[u8], value: &[u8]) -> Option<Edit> {

@@ -1,8 +1,11 @@
 //! Document 01's forward rules and sweep, written from its text alone with plain
 //! tables; no line is shared with the originals. `oracle diff` compares the two.
 
+use std::collections::BTreeSet;
+
+use crate::requests;
 use crate::run::Outcome;
-use crate::sheet::{Con, Edit, OpKind, Place, Sheet};
+use crate::sheet::{Con, Edit, Group, Inputs, OpKind, Place, Recipe, Rin, Sheet};
 
 #[derive(Clone, Copy, PartialEq, Eq, PartialOrd, Ord)]
 enum Pair {
@@ -29,13 +32,15 @@ struct Rules<'a> {
     rec: Record,
     edits: Vec<(u32, Edit)>,
     places: Vec<Place>,
-    counts: [u32; 9],
+    counts: [u32; 10],
     succs: Vec<Vec<u32>>,
     preds: Vec<Vec<u32>>,
     /// First instruction of each block, and one more.
     starts: Vec<u32>,
     /// 0, or a mistake put in on purpose (see `QUIRKS`).
     quirk: u32,
+    /// Which of `BRANCHES` came up.
+    seen: BTreeSet<&'static str>,
 }
 
 /// Mistakes that a port may make; `oracle quirks` tells which cases show each.
@@ -112,6 +117,98 @@ pub const QUIRKS: &[&str] = &[
     "69 dominance is block order",
     "70 edits after their instruction",
     "71 sweep keeps dead remats",
+    // From here on request 2.
+    "72 an input that meets the destination is passed over for the next register",
+    "73 overlap not looked at",
+    "74 the reused input looked up by its own constraint",
+    "75 a rebuilt reload does not count as a move too",
+    "76 only plain registers serve as inputs",
+    "77 highest register for an input",
+    "78 slots never serve as inputs",
+    "79 the home slot before a register",
+    "80 the home slot without the class's slots flag",
+    "81 the home slot whatever it holds",
+    "82 a `use` with a fixed register whatever it holds",
+    "83 a `fixed` input keeps apart",
+    "84 the reused input keeps apart",
+    "85 registers meet by number",
+    "86 a group meets by its first register only",
+    "87 groups of unequal length never fit",
+    "88 only a group's first value looked at",
+    "89 highest group for an input",
+    "90 `u` of an absent input lets nothing pass",
+    "91 a reused destination may be a slot",
+    "92 a destination's class not looked at",
+    "93 a slot never fits as destination",
+    "94 only slots are memory for rebuilding",
+    "95 a move from a plain register rebuilt",
+    "96 a reload that became a move not rebuilt",
+    "97 a given irem never removed",
+    "98 a given irem rebuilt anew",
+    "99 preparing walk passes over irems",
+    "100 an irem to the home slot does not set the last spilled block",
+    "101 an irem to another slot keeps it",
+    "102 sweep: a dead irem adds its inputs",
+    "103 sweep: an irem adds no input",
+    "104 sweep: an irem adds its first input only",
+    "105 sweep: an irem adds its inputs before taking its target away",
+    "106 sweep: a dead irem counts as a dead spill",
+    "107 sweep keeps dead irems",
+    "108 sweep: a rebuilt move adds the source it had",
+    "109 a rebuilt edit is not noted in the record",
+];
+
+const BEFORE_REQUEST_2: usize = 71;
+
+/// The mistakes that a sheet can show.
+pub fn quirks() -> &'static [&'static str] {
+    if requests::recipes() { QUIRKS } else { &QUIRKS[..BEFORE_REQUEST_2] }
+}
+
+/// What can come up where a move from memory may be rebuilt: each branch of the Rust's
+/// `indirect_remat_inputs`, and the cases that a port may take for one.
+pub const BRANCHES: [&str; 41] = [
+    "no recipe",
+    "to c: a register of the class",
+    "to c: a register outside the class",
+    "to c: a slot with the flag",
+    "to c: a slot without the flag",
+    "to f: that register",
+    "to f: another register",
+    "to f: a slot",
+    "to u: without that input",
+    "to u: a register",
+    "to u: a slot",
+    "use c: one register",
+    "use c: the lowest of several registers",
+    "use c: a memory register before a plain one",
+    "use c: the home slot",
+    "use c: no register, no slots flag",
+    "use c: no register, no home slot",
+    "use c: no register, not in the home slot",
+    "use f: held",
+    "use f: not held",
+    "use, reused: held",
+    "use, reused: held, against its own constraint",
+    "use, reused: not held",
+    "useg: first value in no register",
+    "useg: a register that begins no group",
+    "useg: a later value not held",
+    "useg: the lowest of several groups",
+    "useg: found, of equal length",
+    "useg: found, the value group longer",
+    "useg: found, the register group longer",
+    "fixed",
+    "apart from the destination",
+    "the destination's register itself",
+    "the destination's slot itself",
+    "a register that shares a unit with the destination",
+    "useg: a later register meets the destination",
+    "fixed: meets the destination",
+    "overlap allowed",
+    "overlap forbidden: use c",
+    "overlap forbidden: use f",
+    "overlap forbidden: useg",
 ];
 
 const PRE: usize = 0;
@@ -123,6 +220,7 @@ const TO_MOVE: usize = 5;
 const STACK_USE: usize = 6;
 const DEAD_SPILL: usize = 7;
 const DEAD_REMAT: usize = 8;
+const TO_IREM: usize = 9;
 
 impl Rules<'_> {
     fn q(&self, n: u32) -> bool {
@@ -241,7 +339,9 @@ impl Rules<'_> {
     }
     fn do_edit(&mut self, e: Edit) {
         match e {
-            Edit::Move { to, value, .. } | Edit::Remat { to, value } => {
+            Edit::Move { to, value, .. }
+            | Edit::Remat { to, value }
+            | Edit::Irem { to, value, .. } => {
                 let v = value as usize;
                 match to {
                     Place::Reg(r) => {
@@ -250,9 +350,10 @@ impl Rules<'_> {
                     }
                     Place::Slot(s) => {
                         let s = s as usize;
+                        let irem = matches!(e, Edit::Irem { .. });
                         if self.home(v) == Some(s) {
                             self.rec.slot[s] = Some(v);
-                        } else if !self.q(9) {
+                        } else if !self.q(9) && !(self.q(101) && irem) {
                             self.rec.slot[s] = None;
                         }
                     }
@@ -362,11 +463,14 @@ impl Rules<'_> {
         self.begin(block, handed);
         for inst in self.starts[block]..self.starts[block + 1] {
             for e in self.edits_of(inst) {
-                self.do_edit(self.edits[e].1);
+                if !self.q(99) || !matches!(self.edits[e].1, Edit::Irem { .. }) {
+                    self.do_edit(self.edits[e].1);
+                }
                 if let (
                     true,
                     Edit::Move { to: Place::Slot(s), value: v, .. }
-                    | Edit::Remat { to: Place::Slot(s), value: v },
+                    | Edit::Remat { to: Place::Slot(s), value: v }
+                    | Edit::Irem { to: Place::Slot(s), value: v, .. },
                 ) = (self.q(41), self.edits[e].1)
                 {
                     if self.home(v as usize) == Some(s as usize) {
@@ -436,9 +540,12 @@ impl Rules<'_> {
 
     fn optimise_edits(&mut self, inst: u32, block: usize) {
         for e in self.edits_of(inst) {
-            let new = self.optimise_edit(self.edits[e].1, block);
+            let given = self.edits[e].1;
+            let new = self.optimise_edit(given, block);
             self.edits[e].1 = new;
-            self.do_edit(new);
+            if !self.q(109) || new == given || !matches!(new, Edit::Irem { .. }) {
+                self.do_edit(new);
+            }
         }
     }
 
@@ -486,10 +593,12 @@ impl Rules<'_> {
     fn optimise_edit(&mut self, e: Edit, block: usize) -> Edit {
         let (to, from, v) = match e {
             Edit::Move { to, from, value } => (to, Some(from), value as usize),
-            Edit::Remat { to, value } => (to, None, value as usize),
+            Edit::Remat { to, value } | Edit::Irem { to, value, .. } => (to, None, value as usize),
             _ => return e,
         };
+        let given = matches!(e, Edit::Irem { .. });
         match to {
+            _ if given && self.q(97) => {}
             Place::Reg(r) => {
                 if self.rec.holds[v][r as usize] {
                     let which = match from {
@@ -519,28 +628,245 @@ impl Rules<'_> {
                         }
                         return Edit::None;
                     }
-                    if !self.q(16) && !(self.q(56) && from.is_none()) {
+                    if !self.q(16) && !(self.q(56) && from.is_none()) && !(self.q(100) && given) {
                         self.rec.spilled[v] = Some(block);
                     }
                 }
             }
+        }
+        if given && self.q(98) {
+            let inputs = self.rebuild(v, to);
+            return inputs.map_or(e, |inputs| Edit::Irem { to, value: v as u32, inputs });
         }
         if let Some(from) = from {
             let memory = match from {
                 Place::Reg(_) if self.q(18) => false,
                 p => self.memory(p) || self.q(55),
             };
+            if self.q(95) && !memory {
+                let inputs = self.rebuild(v, to);
+                return inputs.map_or(e, |inputs| Edit::Irem { to, value: v as u32, inputs });
+            }
             if memory {
                 let mut fits = (0..self.s.regs.len())
                     .filter(|&r| (!self.s.regs[r].memory || self.q(17)) && self.rec.holds[v][r]);
                 let found = if self.q(19) { fits.last() } else { fits.next() };
+                let mut now = e;
                 if let Some(r) = found {
                     self.counts[TO_MOVE] += 1;
-                    return Edit::Move { to, from: Place::Reg(r as u32), value: v as u32 };
+                    now = Edit::Move { to, from: Place::Reg(r as u32), value: v as u32 };
                 }
+                if self.q(94) && matches!(from, Place::Reg(_)) || self.q(96) && now != e {
+                    return now;
+                }
+                if let Some(inputs) = self.rebuild(v, to) {
+                    self.counts[TO_IREM] += 1;
+                    self.counts[TO_MOVE] -= (self.q(75) && now != e) as u32;
+                    now = Edit::Irem { to, value: v as u32, inputs };
+                }
+                return now;
             }
         }
         e
+    }
+
+    // ---- request 2: recipes ------------------------------------------------------
+
+    fn saw(&mut self, what: &'static str) {
+        self.seen.insert(what);
+    }
+
+    /// The inputs from which a surviving move of `v` from memory to `t` is rebuilt.
+    fn rebuild(&mut self, v: usize, t: Place) -> Option<Inputs> {
+        let Some(recipe) = self.s.recipe(v as u32) else {
+            self.saw("no recipe");
+            return None;
+        };
+        if !self.fits(recipe, t) {
+            return None;
+        }
+        let mut places = vec![];
+        for (at, input) in recipe.inputs.iter().enumerate() {
+            let reused = recipe.con == Con::Reuse(at as u32);
+            let covered = match reused && !self.q(74) {
+                true => self.reused(input, t),
+                false => self.found(input, t),
+            }?;
+            let looked = (!reused || self.q(84)) && (input.kind != OpKind::Fixed || self.q(83));
+            if self.meets(&covered, t, input, reused) && looked {
+                self.saw(match (recipe.overlap, input.kind, input.con) {
+                    (true, _, _) => "overlap allowed",
+                    (false, OpKind::UseG, _) => "overlap forbidden: useg",
+                    (false, _, Con::Fixed(_)) => "overlap forbidden: use f",
+                    (false, _, _) => "overlap forbidden: use c",
+                });
+                if !recipe.overlap && !self.q(73) {
+                    return None;
+                }
+            }
+            places.push(covered[0]);
+        }
+        Some(Inputs::new(&places))
+    }
+
+    fn fits(&mut self, recipe: &Recipe, t: Place) -> bool {
+        let (fits, what) = match (recipe.con, t) {
+            (Con::Class(c), Place::Reg(r)) => match self.s.classes[c as usize].regs.contains(&r) {
+                true => (true, "to c: a register of the class"),
+                false => (self.q(92), "to c: a register outside the class"),
+            },
+            (Con::Class(c), Place::Slot(_)) => match self.s.classes[c as usize].slots {
+                true => (!self.q(93), "to c: a slot with the flag"),
+                false => (self.q(92), "to c: a slot without the flag"),
+            },
+            (Con::Fixed(r), Place::Reg(x)) if x == r => (true, "to f: that register"),
+            (Con::Fixed(_), Place::Reg(_)) => (false, "to f: another register"),
+            (Con::Fixed(_), Place::Slot(_)) => (false, "to f: a slot"),
+            (Con::Reuse(i), _) if i as usize >= recipe.inputs.len() => {
+                (!self.q(90), "to u: without that input")
+            }
+            (Con::Reuse(_), Place::Reg(_)) => (true, "to u: a register"),
+            (Con::Reuse(_), Place::Slot(_)) => (self.q(91), "to u: a slot"),
+        };
+        self.saw(what);
+        fits
+    }
+
+    /// The reused input stands in the destination or nowhere.
+    fn reused(&mut self, input: &Rin, t: Place) -> Option<Vec<Place>> {
+        let n = input.subject as usize;
+        let (held, allowed) = match t {
+            Place::Reg(r) => {
+                let allowed = match input.con {
+                    Con::Class(c) => self.s.classes[c as usize].regs.contains(&r),
+                    con => con == Con::Fixed(r),
+                };
+                (self.rec.holds[n][r as usize], allowed)
+            }
+            Place::Slot(x) => (self.rec.slot[x as usize] == Some(n), true),
+        };
+        self.saw(match (held, allowed) {
+            (false, _) => "use, reused: not held",
+            (true, true) => "use, reused: held",
+            (true, false) => "use, reused: held, against its own constraint",
+        });
+        held.then_some(vec![t])
+    }
+
+    /// Where an input stands, first its place and then what else it covers.
+    fn found(&mut self, input: &Rin, t: Place) -> Option<Vec<Place>> {
+        let n = input.subject as usize;
+        match (input.kind, input.con) {
+            (OpKind::Fixed, Con::Fixed(r)) => {
+                self.saw("fixed");
+                Some(vec![Place::Reg(r)])
+            }
+            (OpKind::Use, Con::Fixed(r)) => {
+                let held = self.rec.holds[n][r as usize];
+                self.saw(if held { "use f: held" } else { "use f: not held" });
+                (held || self.q(82)).then_some(vec![Place::Reg(r)])
+            }
+            (OpKind::Use, Con::Class(c)) => self.found_in_class(n, c, t).map(|p| vec![p]),
+            (OpKind::UseG, Con::Class(c)) => self.found_group(n, c),
+            _ => panic!("refused with 13"),
+        }
+    }
+
+    fn found_in_class(&mut self, n: usize, class: u32, t: Place) -> Option<Place> {
+        let class = &self.s.classes[class as usize];
+        let place = |r: usize| Place::Reg(r as u32);
+        let held: Vec<usize> = (0..self.s.regs.len())
+            .filter(|&r| class.regs.contains(&(r as u32)) && self.rec.holds[n][r])
+            .filter(|&r| !self.q(76) || !self.s.regs[r].memory)
+            .filter(|&r| !self.q(72) || !self.meet(place(r), t))
+            .collect();
+        let home = self.home(n);
+        let in_home = home.is_some_and(|h| self.rec.slot[h] == Some(n));
+        let slot = match home {
+            Some(h) if (class.slots || self.q(80)) && (in_home || self.q(81)) && !self.q(78) => {
+                Some(Place::Slot(h as u32))
+            }
+            _ => None,
+        };
+        let reg = if self.q(77) { held.last() } else { held.first() };
+        match reg {
+            Some(&r) if self.s.regs[r].memory && held.iter().any(|&x| !self.s.regs[x].memory) => {
+                self.saw("use c: a memory register before a plain one")
+            }
+            Some(_) if held.len() > 1 => self.saw("use c: the lowest of several registers"),
+            Some(_) => self.saw("use c: one register"),
+            None if !class.slots => self.saw("use c: no register, no slots flag"),
+            None if home.is_none() => self.saw("use c: no register, no home slot"),
+            None if in_home => self.saw("use c: the home slot"),
+            None => self.saw("use c: no register, not in the home slot"),
+        }
+        let reg = reg.map(|&r| place(r));
+        if self.q(79) { slot.or(reg) } else { reg.or(slot) }
+    }
+
+    /// The group of the class that begins at the lowest register and holds the values.
+    fn found_group(&mut self, vgroup: usize, class: u32) -> Option<Vec<Place>> {
+        let s = self.s;
+        let values = &s.vgroups[vgroup];
+        let begins: Vec<usize> =
+            (0..s.regs.len()).filter(|&r| self.rec.holds[values[0] as usize][r]).collect();
+        if begins.is_empty() {
+            self.saw("useg: first value in no register");
+        }
+        let mut fit = vec![];
+        for r in begins {
+            let of = |g: &&Group| g.class == class && g.regs[0] as usize == r;
+            let Some(group) = s.groups.iter().find(of) else {
+                self.saw("useg: a register that begins no group");
+                continue;
+            };
+            let holds = |(&v, &x): (&u32, &u32)| self.rec.holds[v as usize][x as usize];
+            let all = values.iter().zip(&group.regs).all(holds);
+            if !all {
+                self.saw("useg: a later value not held");
+            }
+            let equal = values.len() == group.regs.len();
+            if (all || self.q(88)) && (equal || !self.q(87)) {
+                fit.push(group);
+            }
+        }
+        if fit.len() > 1 {
+            self.saw("useg: the lowest of several groups");
+        }
+        let group = if self.q(89) { fit.last() } else { fit.first() }?;
+        self.saw(match values.len().cmp(&group.regs.len()) {
+            std::cmp::Ordering::Less => "useg: found, the register group longer",
+            std::cmp::Ordering::Equal => "useg: found, of equal length",
+            std::cmp::Ordering::Greater => "useg: found, the value group longer",
+        });
+        Some(group.regs.iter().map(|&r| Place::Reg(r)).collect())
+    }
+
+    /// Does an input that covers these places meet the destination?
+    fn meets(&mut self, covered: &[Place], t: Place, input: &Rin, reused: bool) -> bool {
+        let at = covered.iter().position(|&p| self.meet(p, t));
+        match at {
+            _ if reused => {}
+            None => self.saw("apart from the destination"),
+            Some(_) if input.kind == OpKind::Fixed => self.saw("fixed: meets the destination"),
+            Some(0) if covered[0] == t => match t {
+                Place::Slot(_) => self.saw("the destination's slot itself"),
+                Place::Reg(_) => self.saw("the destination's register itself"),
+            },
+            Some(0) => self.saw("a register that shares a unit with the destination"),
+            Some(_) => self.saw("useg: a later register meets the destination"),
+        }
+        at.is_some() && !(self.q(86) && at != Some(0))
+    }
+
+    fn meet(&self, a: Place, b: Place) -> bool {
+        match (a, b) {
+            (Place::Reg(a), Place::Reg(b)) if !self.q(85) => {
+                let others = self.units(b as usize);
+                self.units(a as usize).iter().any(|u| others.contains(u))
+            }
+            _ => a == b,
+        }
     }
 
     /// All pairs known now.
@@ -716,16 +1042,24 @@ impl Rules<'_> {
                 match self.edits[e].1 {
                     Edit::Move { to: Place::Slot(s), .. }
                     | Edit::Remat { to: Place::Slot(s), .. }
+                    | Edit::Irem { to: Place::Slot(s), .. }
                         if !want[s as usize]
-                            && !(self.q(71) && matches!(self.edits[e].1, Edit::Remat { .. })) =>
+                            && !(self.q(71) && matches!(self.edits[e].1, Edit::Remat { .. }))
+                            && !(self.q(107) && matches!(self.edits[e].1, Edit::Irem { .. })) =>
                     {
+                        if let (true, Edit::Irem { inputs, .. }) = (self.q(102), self.edits[e].1) {
+                            add(&mut want, &inputs);
+                        }
                         if let (true, Edit::Move { from: Place::Slot(x), .. }) =
                             (self.q(3), self.edits[e].1)
                         {
                             want[x as usize] = true;
                         }
                         if strike {
-                            let is_move = matches!(self.edits[e].1, Edit::Move { .. });
+                            let is_move = match self.edits[e].1 {
+                                Edit::Irem { .. } => self.q(106),
+                                e => matches!(e, Edit::Move { .. }),
+                            };
                             self.counts[if is_move { DEAD_SPILL } else { DEAD_REMAT }] += 1;
                             self.edits[e].1 = Edit::None;
                         }
@@ -741,6 +1075,24 @@ impl Rules<'_> {
                     Edit::Remat { to, .. } => {
                         if let (Place::Slot(s), false) = (to, self.q(50)) {
                             want[s as usize] = false;
+                        }
+                    }
+                    Edit::Irem { to, inputs, .. } => {
+                        if let Place::Slot(s) = to {
+                            want[s as usize] = false;
+                        }
+                        match self.quirk {
+                            103 => {}
+                            104 => add(&mut want, &inputs[..inputs.len().min(1)]),
+                            105 => {
+                                let others: Vec<Place> =
+                                    inputs.iter().copied().filter(|&p| p != to).collect();
+                                add(&mut want, &others);
+                            }
+                            _ => add(&mut want, &inputs),
+                        }
+                        if let (true, Edit::Move { from, .. }) = (self.q(108), self.s.edits[e].1) {
+                            add(&mut want, &[from]);
                         }
                     }
                     Edit::Espill { to: Place::Slot(s), .. } => {
@@ -791,11 +1143,29 @@ impl Rules<'_> {
     }
 }
 
+/// The slots among these places are wanted.
+fn add(want: &mut [bool], places: &[Place]) {
+    for p in places {
+        if let Place::Slot(s) = *p {
+            want[s as usize] = true;
+        }
+    }
+}
+
 pub fn run_rules(s: &Sheet, level: u32, sweep: u32) -> Outcome {
     run_quirk(s, level, sweep, 0)
 }
 
 pub fn run_quirk(s: &Sheet, level: u32, sweep: u32, quirk: u32) -> Outcome {
+    run(s, level, sweep, quirk).0
+}
+
+/// Which of `BRANCHES` come up at this level.
+pub fn branches(s: &Sheet, level: u32) -> BTreeSet<&'static str> {
+    run(s, level, 0, 0).1
+}
+
+fn run(s: &Sheet, level: u32, sweep: u32, quirk: u32) -> (Outcome, BTreeSet<&'static str>) {
     let mut starts = vec![0];
     for b in &s.blocks {
         starts.push(starts.last().unwrap() + b.insts);
@@ -813,11 +1183,12 @@ pub fn run_quirk(s: &Sheet, level: u32, sweep: u32, quirk: u32) -> Outcome {
         },
         edits: s.edits.clone(),
         places: s.ops.iter().map(|o| o.place).collect(),
-        counts: [0; 9],
+        counts: [0; 10],
         succs: s.neighbours(&s.succs),
         preds: s.neighbours(&s.preds),
         starts,
         quirk,
+        seen: BTreeSet::new(),
     };
     rules.level(level);
     if sweep == 1 {
@@ -831,5 +1202,5 @@ pub fn run_quirk(s: &Sheet, level: u32, sweep: u32, quirk: u32) -> Outcome {
             folds.push((s.ops[at].inst, idx, rules.places[at]));
         }
     }
-    Outcome { folds, edits: rules.edits, counts: rules.counts }
+    (Outcome { folds, edits: rules.edits, counts: rules.counts }, rules.seen)
 }

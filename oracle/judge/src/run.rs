@@ -4,7 +4,7 @@
 
 use std::panic::{self, AssertUnwindSafe};
 
-use crate::entity::ReservedValue;
+use crate::entity::{CompactList, CompactListPool, ReservedValue};
 use crate::frames::{Answer, Case};
 use crate::function::{Block, Function, Inst, Value};
 use crate::internal::allocations::Allocations;
@@ -20,7 +20,8 @@ use crate::machine::{SheetFunc, SheetRegs};
 use crate::output::{Allocation, AllocationKind, SpillSlot};
 use crate::read::read;
 use crate::reginfo::{PhysReg, SpillSlotSize};
-use crate::sheet::{self, Edit, Place, Sheet};
+use crate::requests;
+use crate::sheet::{self, Edit, Inputs, Place, Sheet};
 use crate::{MoveOptimizationLevel, Stats};
 
 // ---- the call --------------------------------------------------------------------
@@ -137,7 +138,7 @@ fn build_allocations(sheet: &Sheet, func: &SheetFunc) -> Allocations {
     allocations
 }
 
-fn rust_edit(e: Edit) -> Option<RustEdit> {
+fn rust_edit(e: Edit, pool: &mut CompactListPool<Allocation>) -> Option<RustEdit> {
     match e {
         Edit::Move { to, from, value } => {
             let value = Value::new(value as usize);
@@ -146,6 +147,11 @@ fn rust_edit(e: Edit) -> Option<RustEdit> {
         Edit::Remat { to, value } => {
             let value = Value::new(value as usize);
             Some(RustEdit::Rematerialize { to: alloc_of(to), value })
+        }
+        Edit::Irem { to, value, inputs } => {
+            let (to, value) = (alloc_of(to), Value::new(value as usize));
+            let inputs = CompactList::from_iter(inputs.iter().map(|&p| alloc_of(p)), pool);
+            Some(RustEdit::IndirectRematerialize { to, value, inputs })
         }
         Edit::Espill { to: Place::Slot(s), from: Place::Reg(r) } => {
             let (to, from) = (SpillSlot::new(s as usize), PhysReg::new(r as usize));
@@ -160,9 +166,12 @@ fn rust_edit(e: Edit) -> Option<RustEdit> {
     }
 }
 
-fn build_resolver(sheet: &Sheet) -> MoveResolver {
-    let edits =
-        sheet.edits.iter().map(|&(inst, e)| (Inst::new(inst as usize), rust_edit(e))).collect();
+fn build_resolver(sheet: &Sheet, pool: &mut CompactListPool<Allocation>) -> MoveResolver {
+    let edits = sheet
+        .edits
+        .iter()
+        .map(|&(inst, e)| (Inst::new(inst as usize), rust_edit(e, pool)))
+        .collect();
     let blockparam_allocs = sheet
         .params
         .iter()
@@ -174,15 +183,16 @@ fn build_resolver(sheet: &Sheet) -> MoveResolver {
 pub fn build(sheet: &Sheet) -> Prepared {
     let func = SheetFunc::new(sheet);
     let (spill, coalescing) = build_spill(sheet);
-    let allocations = build_allocations(sheet, &func);
+    let mut allocations = build_allocations(sheet, &func);
     let before = allocations.allocations().to_vec();
     debug_assert!(before.iter().all(|a| !a.is_reserved_value()));
+    let resolver = build_resolver(sheet, &mut allocations.remat_inputs);
     Prepared {
         func,
         regs: SheetRegs::new(sheet),
         allocations,
         before,
-        resolver: build_resolver(sheet),
+        resolver,
         spill,
         coalescing,
         stats: Stats::default(),
@@ -220,12 +230,13 @@ pub fn sweep(p: &mut Prepared, dead: &mut DeadSpillElimination) {
 
 // ---- the answer ------------------------------------------------------------------
 
-/// What a run leaves: the altered places, the edits and the nine counts.
+/// What a run leaves: the altered places, the edits and the counts. The tenth is
+/// written with request 2 only; without recipes it is 0.
 #[derive(Clone, PartialEq, Eq, Debug)]
 pub struct Outcome {
     pub folds: Vec<(u32, u32, Place)>,
     pub edits: Vec<(u32, Edit)>,
-    pub counts: [u32; 9],
+    pub counts: [u32; 10],
 }
 
 pub fn outcome(p: &Prepared) -> Outcome {
@@ -235,7 +246,7 @@ pub fn outcome(p: &Prepared) -> Outcome {
             .resolver
             .edits()
             .iter()
-            .map(|&(inst, e)| (inst.index() as u32, sheet_edit(e)))
+            .map(|&(inst, e)| (inst.index() as u32, sheet_edit(e, &p.allocations)))
             .collect(),
         counts: counts(&p.stats),
     }
@@ -254,7 +265,7 @@ fn folds(p: &Prepared) -> Vec<(u32, u32, Place)> {
     folds
 }
 
-fn sheet_edit(e: Option<RustEdit>) -> Edit {
+fn sheet_edit(e: Option<RustEdit>, allocations: &Allocations) -> Edit {
     let slot = |s: SpillSlot| Place::Slot(s.index() as u32);
     let reg = |r: PhysReg| Place::Reg(r.index() as u32);
     match e {
@@ -271,12 +282,17 @@ fn sheet_edit(e: Option<RustEdit>) -> Edit {
         Some(RustEdit::EmergencyReload { to, from }) => {
             Edit::Ereload { to: reg(to), from: slot(from) }
         }
-        Some(RustEdit::IndirectRematerialize { .. }) => unreachable!("no sheet has one"),
+        Some(RustEdit::IndirectRematerialize { to, value, inputs }) => {
+            let inputs = inputs.as_slice(&allocations.remat_inputs);
+            let inputs: Vec<Place> = inputs.iter().map(|&a| place_of(a)).collect();
+            let (to, value) = (place_of(to), value.index() as u32);
+            Edit::Irem { to, value, inputs: Inputs::new(&inputs) }
+        }
     }
 }
 
-fn counts(s: &Stats) -> [u32; 9] {
-    assert_eq!(s.optimized_reload_to_indirect_remat, 0);
+fn counts(s: &Stats) -> [u32; 10] {
+    assert!(requests::recipes() || s.optimized_reload_to_indirect_remat == 0);
     [
         s.blocks_preprocessed_for_optimizer,
         s.optimized_redundant_reload,
@@ -287,8 +303,14 @@ fn counts(s: &Stats) -> [u32; 9] {
         s.optimized_stack_use,
         s.eliminated_dead_spill,
         s.eliminated_dead_remat,
+        s.optimized_reload_to_indirect_remat,
     ]
     .map(|n| n as u32)
+}
+
+/// How many counts the last row of an answer has.
+pub fn written_counts() -> usize {
+    if requests::recipes() { 10 } else { 9 }
 }
 
 pub fn write(o: &Outcome) -> Vec<u8> {
@@ -306,7 +328,7 @@ pub fn write(o: &Outcome) -> Vec<u8> {
         sheet::put_edit(&mut out, inst, e);
     }
     out.extend_from_slice(b"count");
-    for n in o.counts {
+    for &n in &o.counts[..written_counts()] {
         out.push(b',');
         sheet::put_num(&mut out, n);
     }

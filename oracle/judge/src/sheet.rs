@@ -2,7 +2,9 @@
 //! read.rs, what is accepted in accept.rs. Written from the paper alone; shares
 //! nothing with the originals.
 
-use std::ops::Range;
+use std::collections::HashSet;
+use std::ops::{Deref, Range};
+use std::sync::Mutex;
 
 pub const MAX_SHEET: usize = 65_536;
 pub const MAX_SLOTS: usize = 64;
@@ -18,7 +20,7 @@ pub const MAX_OPS: usize = 2048;
 pub const MAX_EDITS: usize = 1024;
 pub const MAX_REUSE: u32 = 127;
 
-#[derive(Clone, Copy, PartialEq, Eq, Debug)]
+#[derive(Clone, Copy, PartialEq, Eq, Hash, Debug)]
 pub enum Place {
     Reg(u32),
     Slot(u32),
@@ -86,6 +88,24 @@ pub struct Group {
     pub regs: Vec<u32>,
 }
 
+/// A value's recipe: its `iremat` row and the `rin` rows after it.
+#[derive(Clone, PartialEq, Eq, Debug)]
+pub struct Recipe {
+    pub value: u32,
+    pub con: Con,
+    /// The destination may overlap the inputs.
+    pub overlap: bool,
+    pub inputs: Vec<Rin>,
+}
+
+#[derive(Clone, Copy, PartialEq, Eq, Debug)]
+pub struct Rin {
+    pub kind: OpKind,
+    /// 0 for `fixed`.
+    pub subject: u32,
+    pub con: Con,
+}
+
 #[derive(Clone, PartialEq, Eq, Debug)]
 pub struct Block {
     pub insts: u32,
@@ -114,9 +134,37 @@ pub struct Op {
 pub enum Edit {
     Move { to: Place, from: Place, value: u32 },
     Remat { to: Place, value: u32 },
+    Irem { to: Place, value: u32, inputs: Inputs },
     Espill { to: Place, from: Place },
     Ereload { to: Place, from: Place },
     None,
+}
+
+/// The inputs of an `irem`. Equal lists are kept once and never given back, so that an
+/// edit is copied like a number.
+#[derive(Clone, Copy, PartialEq, Eq, Debug)]
+pub struct Inputs(&'static [Place]);
+
+static KEPT: Mutex<Option<HashSet<&'static [Place]>>> = Mutex::new(None);
+
+impl Inputs {
+    pub fn new(list: &[Place]) -> Self {
+        let mut kept = KEPT.lock().unwrap();
+        let kept = kept.get_or_insert_default();
+        if let Some(same) = kept.get(list) {
+            return Self(same);
+        }
+        let list: &'static [Place] = Vec::leak(list.to_vec());
+        kept.insert(list);
+        Self(list)
+    }
+}
+
+impl Deref for Inputs {
+    type Target = [Place];
+    fn deref(&self) -> &[Place] {
+        self.0
+    }
 }
 
 #[derive(Clone, Default, PartialEq, Eq, Debug)]
@@ -127,6 +175,7 @@ pub struct Sheet {
     pub groups: Vec<Group>,
     pub homes: Vec<Option<u32>>,
     pub vgroups: Vec<Vec<u32>>,
+    pub recipes: Vec<Recipe>,
     pub blocks: Vec<Block>,
     pub succs: Vec<(u32, Vec<u32>)>,
     pub preds: Vec<(u32, Vec<u32>)>,
@@ -139,6 +188,10 @@ pub struct Sheet {
 impl Sheet {
     pub fn num_insts(&self) -> usize {
         self.blocks.iter().map(|b| b.insts as usize).sum()
+    }
+
+    pub fn recipe(&self, value: u32) -> Option<&Recipe> {
+        self.recipes.iter().find(|r| r.value == value)
     }
 
     /// The neighbours of each block, absent rows meaning none.
@@ -222,6 +275,16 @@ pub fn put_edit(out: &mut Vec<u8>, inst: u32, edit: Edit) {
             out.extend_from_slice(b",-,");
             put_num(out, value);
         }
+        Edit::Irem { to, value, inputs } => {
+            out.extend_from_slice(b",irem,");
+            put_place(out, to);
+            out.extend_from_slice(b",-,");
+            put_num(out, value);
+            for &p in inputs.iter() {
+                out.push(b',');
+                put_place(out, p);
+            }
+        }
         Edit::Espill { to, from } | Edit::Ereload { to, from } => {
             out.extend_from_slice(if matches!(edit, Edit::Espill { .. }) {
                 b",espill,"
@@ -247,6 +310,12 @@ impl Sheet {
             Place::Reg(x) => format!("r{x}"),
             Place::Slot(x) => format!("s{x}"),
         };
+        let con = |c: Con| match c {
+            Con::Class(n) => format!("c{n}"),
+            Con::Fixed(n) => format!("f{n}"),
+            Con::Reuse(n) => format!("u{n}"),
+        };
+        let subject = |kind: OpKind, n: u32| dash((kind != OpKind::Fixed).then_some(n));
         let mut row = |s: String| {
             out.extend_from_slice(s.as_bytes());
             out.extend_from_slice(b"\r\n");
@@ -267,6 +336,13 @@ impl Sheet {
         for (i, g) in self.vgroups.iter().enumerate() {
             row(format!("vgroup,{i}{}", join(g)));
         }
+        for r in &self.recipes {
+            row(format!("iremat,{},{},{}", r.value, con(r.con), r.overlap as u32));
+            for i in &r.inputs {
+                let of = subject(i.kind, i.subject);
+                row(format!("rin,{},{},{of},{}", r.value, i.kind.name(), con(i.con)));
+            }
+        }
         for (i, b) in self.blocks.iter().enumerate() {
             row(format!("block,{i},{},{},{}", b.insts, dash(b.idom), b.entry as u32));
         }
@@ -280,14 +356,8 @@ impl Sheet {
             row(format!("param,{},{},{}", p.block, p.value, pl(p.place)));
         }
         for o in &self.ops {
-            let subject =
-                if o.kind == OpKind::Fixed { "-".to_string() } else { o.subject.to_string() };
-            let con = match o.con {
-                Con::Class(n) => format!("c{n}"),
-                Con::Fixed(n) => format!("f{n}"),
-                Con::Reuse(n) => format!("u{n}"),
-            };
-            row(format!("op,{},{},{subject},{con},{}", o.inst, o.kind.name(), pl(o.place)));
+            let (of, at) = (subject(o.kind, o.subject), pl(o.place));
+            row(format!("op,{},{},{of},{},{at}", o.inst, o.kind.name(), con(o.con)));
         }
         for (i, l) in &self.clobs {
             row(format!("clob,{i}{}", join(l)));

@@ -2,6 +2,7 @@
 //! operand, one clobber, or one edit before it. For comparing exhaustively.
 
 use crate::frames::{self, Case};
+use crate::requests;
 use crate::sheet::*;
 
 #[derive(Clone, Copy)]
@@ -28,7 +29,21 @@ fn items() -> Vec<Item> {
     }
     l.push(Item::Clob(0));
     l.push(Item::Clob(1));
+    if requests::recipes() {
+        for (value, to) in (0..2).flat_map(|v| places.map(|p| (v, p))) {
+            let inputs = Inputs::new(&[Place::Slot(0)]);
+            l.push(Item::Edit(Edit::Irem { to, value, inputs }));
+        }
+    }
     l
+}
+
+/// Value 0 from value 1, apart from it; value 1 from value 0, in its place.
+fn recipes() -> Vec<Recipe> {
+    let input = |subject| Rin { kind: OpKind::Use, subject, con: Con::Class(0) };
+    let apart = Recipe { value: 0, con: Con::Class(0), overlap: false, inputs: vec![input(1)] };
+    let reused = Recipe { value: 1, con: Con::Reuse(0), overlap: false, inputs: vec![input(0)] };
+    vec![apart, reused]
 }
 
 pub const SHAPES: usize = 4;
@@ -59,6 +74,7 @@ fn sheet(which: usize, list: &[Item]) -> Option<Sheet> {
         regs: vec![Reg { memory: false, units: vec![0] }, Reg { memory: true, units: vec![1] }],
         classes: vec![Class { slots: true, regs: vec![0, 1] }],
         homes: vec![Some(0), Some(0)],
+        recipes: if requests::recipes() { recipes() } else { vec![] },
         ..Sheet::default()
     };
     for (b, &n) in insts.iter().enumerate() {

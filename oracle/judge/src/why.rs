@@ -1,4 +1,4 @@
-//! Which rules of the refusals 2 to 6 and 9 to 12 a sheet breaks, and at which block: a
+//! Which rules of the refusals 2 to 6 and 9 to 13 a sheet breaks, and at which block: a
 //! second writing of the checks, rule by rule, against which accept.rs is held by
 //! `oracle why`.
 
@@ -15,7 +15,7 @@ pub fn why(s: &Sheet) -> (u32, Option<u32>, Vec<&'static str>) {
     let no_block = |f: fn(&Sheet) -> Vec<&'static str>| -> Broken {
         f(s).into_iter().map(|rule| (rule, None)).collect()
     };
-    let all: [(u32, &dyn Fn() -> Broken); 9] = [
+    let all: [(u32, &dyn Fn() -> Broken); 10] = [
         (2, &|| no_block(limits)),
         (3, &|| no_block(names)),
         (4, &|| entry_and_empty(s)),
@@ -25,6 +25,7 @@ pub fn why(s: &Sheet) -> (u32, Option<u32>, Vec<&'static str>) {
         (12, &|| not_reached(s)),
         (5, &|| no_block(operands)),
         (6, &|| no_block(edits)),
+        (13, &|| no_block(recipes)),
     ];
     for (n, broken) in all {
         let broken = broken();
@@ -66,6 +67,16 @@ fn limits(s: &Sheet) -> Vec<&'static str> {
     for o in &s.ops {
         if let Con::Reuse(i) = o.con {
             over(i as usize, 127, "reuse index");
+        }
+    }
+    for r in &s.recipes {
+        if let Con::Reuse(i) = r.con {
+            over(i as usize, 127, "iremat: reuse index");
+        }
+        for i in &r.inputs {
+            if let Con::Reuse(i) = i.con {
+                over(i as usize, 127, "rin: reuse index");
+            }
         }
     }
     l.sort();
@@ -132,6 +143,32 @@ fn names(s: &Sheet) -> Vec<&'static str> {
         }
         if g.iter().any(|&v| v >= nv) {
             l.push("vgroup: absent value");
+        }
+    }
+    for r in &s.recipes {
+        if r.value >= nv {
+            l.push("iremat: absent value");
+        }
+        match r.con {
+            Con::Class(c) if c >= nc => l.push("iremat: absent class"),
+            Con::Fixed(x) if x >= nr => l.push("iremat: absent fixed register"),
+            _ => {}
+        }
+        for i in &r.inputs {
+            match i.con {
+                Con::Class(c) if c >= nc => l.push("rin: absent class"),
+                Con::Fixed(x) if x >= nr => l.push("rin: absent fixed register"),
+                _ => {}
+            }
+            match i.kind {
+                OpKind::Def | OpKind::Use | OpKind::Early if i.subject >= nv => {
+                    l.push("rin: absent value")
+                }
+                OpKind::DefG | OpKind::UseG | OpKind::EarlyG if i.subject >= ng => {
+                    l.push("rin: absent value group")
+                }
+                _ => {}
+            }
         }
     }
     for b in &s.blocks {
@@ -207,9 +244,14 @@ fn names(s: &Sheet) -> Vec<&'static str> {
         if i >= ni {
             l.push("edit: absent instruction");
         }
+        if let Edit::Irem { inputs, .. } = e {
+            if inputs.iter().any(|&p| !place(p)) {
+                l.push("irem: absent input");
+            }
+        }
         let (places, value): (Vec<Place>, u32) = match e {
             Edit::Move { to, from, value } => (vec![to, from], value),
-            Edit::Remat { to, value } => (vec![to], value),
+            Edit::Remat { to, value } | Edit::Irem { to, value, .. } => (vec![to], value),
             Edit::Espill { to, from } | Edit::Ereload { to, from } => (vec![to, from], u32::MAX),
             Edit::None => (vec![], u32::MAX),
         };
@@ -432,6 +474,34 @@ fn edits(s: &Sheet) -> Vec<&'static str> {
     l.sort();
     l.dedup();
     l
+}
+
+/// The rules of refusal 13.
+pub const RECIPE_RULES: [&str; 6] = [
+    "input of a defining kind",
+    "input with a reuse constraint",
+    "group input without a class",
+    "group input at the reused index",
+    "fixed input without f",
+    "fixed input at the reused index",
+];
+
+fn recipes(s: &Sheet) -> Vec<&'static str> {
+    let mut broken = [false; 6];
+    for r in &s.recipes {
+        for i in &r.inputs {
+            broken[0] |= !matches!(i.kind, OpKind::Use | OpKind::UseG | OpKind::Fixed);
+            broken[1] |= matches!(i.con, Con::Reuse(_));
+            broken[2] |= i.kind == OpKind::UseG && matches!(i.con, Con::Fixed(_));
+            broken[4] |= i.kind == OpKind::Fixed && matches!(i.con, Con::Class(_));
+        }
+        if let Con::Reuse(i) = r.con {
+            let kind = r.inputs.get(i as usize).map(|i| i.kind);
+            broken[3] |= kind == Some(OpKind::UseG);
+            broken[5] |= kind == Some(OpKind::Fixed);
+        }
+    }
+    (0..6).filter(|&k| broken[k]).map(|k| RECIPE_RULES[k]).collect()
 }
 
 /// The row of a block by the sheet's bytes, counted from 1.

@@ -1,21 +1,25 @@
-//! Stand-in: lists kept in a pool. Only indirect rematerialisation makes one, and no
-//! sheet has any, so nothing here ever runs but the making and clearing of a pool.
+//! Stand-in: lists kept in a pool. Only indirect rematerialisation makes one.
 
 use core::marker::PhantomData;
 
 pub struct CompactListPool<T> {
-    marker: PhantomData<T>,
+    all: alloc::vec::Vec<T>,
 }
 
 impl<T> CompactListPool<T> {
     pub const fn new() -> Self {
-        Self { marker: PhantomData }
+        Self { all: alloc::vec::Vec::new() }
     }
-    pub fn clear(&mut self) {}
+    pub fn clear(&mut self) {
+        self.all.clear();
+    }
 }
 
+/// Where a list begins in its pool, and how long it is.
 #[derive(Debug)]
 pub struct CompactList<T> {
+    at: u32,
+    len: u32,
     marker: PhantomData<T>,
 }
 
@@ -28,10 +32,12 @@ impl<T> Clone for CompactList<T> {
 impl<T> Copy for CompactList<T> {}
 
 impl<T> CompactList<T> {
-    pub fn from_iter(_iter: impl IntoIterator<Item = T>, _pool: &mut CompactListPool<T>) -> Self {
-        unreachable!("no sheet has an indirect rematerialisation")
+    pub fn from_iter(iter: impl IntoIterator<Item = T>, pool: &mut CompactListPool<T>) -> Self {
+        let at = pool.all.len();
+        pool.all.extend(iter);
+        Self { at: at as u32, len: (pool.all.len() - at) as u32, marker: PhantomData }
     }
-    pub fn as_slice<'a>(&self, _pool: &'a CompactListPool<T>) -> &'a [T] {
-        unreachable!("no sheet has an indirect rematerialisation")
+    pub fn as_slice<'a>(&self, pool: &'a CompactListPool<T>) -> &'a [T] {
+        &pool.all[self.at as usize..][..self.len as usize]
     }
 }

@@ -1,9 +1,11 @@
 //! Random sheets, nearly all accepted: the machine and its values. Blocks are left to
-//! graph.rs, what stands in them to body.rs, damage to mutate.rs.
+//! graph.rs, what stands in them to body.rs, recipes to recipes.rs, damage to mutate.rs.
 
 mod body;
 mod graph;
+mod recipes;
 
+use crate::requests;
 use crate::rng::Rng;
 use crate::sheet::*;
 
@@ -145,6 +147,9 @@ impl Gen<'_> {
         self.vgroups(&mut s, shape);
         self.blocks(&mut s, shape, which);
         self.body(&mut s, shape, which);
+        if requests::recipes() {
+            self.request_2(&mut s, shape);
+        }
         s
     }
 

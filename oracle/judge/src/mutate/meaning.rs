@@ -1,11 +1,16 @@
 //! Damage by meaning: a sheet that still has whole rows.
 
+use crate::requests;
 use crate::rng::Rng;
 use crate::sheet::*;
 
 /// At a limit, or one over it.
 pub(super) fn limit(rng: &mut Rng, mut s: Sheet) -> Sheet {
     let over = rng.below(2);
+    if requests::recipes() && rng.pct(10) {
+        recipe_at(rng, &mut s, 127 + over as u32);
+        return s;
+    }
     match rng.below(14) {
         0 => s.slots = 64 + over as u32,
         1 => {
@@ -107,6 +112,17 @@ fn reuse_at(s: &mut Sheet, index: u32) {
     s.ops.push(Op { kind: OpKind::Def, con: Con::Reuse(index), ..used });
 }
 
+/// A recipe, or an input, that reuses an input of this number.
+fn recipe_at(rng: &mut Rng, s: &mut Sheet, index: u32) {
+    let con = Con::Reuse(index);
+    let input = Rin { kind: OpKind::Use, subject: 0, con };
+    match s.recipes.last_mut() {
+        Some(r) if rng.pct(50) => r.inputs.push(input),
+        Some(r) => r.con = con,
+        None => s.recipes.push(Recipe { value: 0, con, overlap: rng.pct(50), inputs: vec![] }),
+    }
+}
+
 /// Up to so many bytes, by values, `none` edits and `fixed` operands of the last
 /// instruction, and then `remat` edits of values with as many digits as are wanted.
 fn fill_bytes(s: &mut Sheet, goal: usize) {
@@ -136,7 +152,7 @@ fn fill_bytes(s: &mut Sheet, goal: usize) {
 }
 
 /// One number that names something: mostly the first absent one.
-fn wrong(rng: &mut Rng, n: usize) -> u32 {
+pub(super) fn wrong(rng: &mut Rng, n: usize) -> u32 {
     match rng.below(4) {
         0 | 1 => n as u32,
         2 => n.saturating_sub(1) as u32,
@@ -144,7 +160,7 @@ fn wrong(rng: &mut Rng, n: usize) -> u32 {
     }
 }
 
-fn wrong_place(rng: &mut Rng, s: &Sheet) -> Place {
+pub(super) fn wrong_place(rng: &mut Rng, s: &Sheet) -> Place {
     if rng.pct(50) {
         Place::Reg(wrong(rng, s.regs.len()))
     } else {
@@ -290,6 +306,15 @@ pub(super) fn names(rng: &mut Rng, s: &mut Sheet) {
                         },
                         Edit::Remat { to, value } => match which {
                             1 => *to = p,
+                            _ => *value = v,
+                        },
+                        Edit::Irem { to, value, inputs } => match which {
+                            1 => *to = p,
+                            2 if !inputs.is_empty() => {
+                                let mut list = inputs.to_vec();
+                                list[rng.below(inputs.len())] = p;
+                                *inputs = Inputs::new(&list);
+                            }
                             _ => *value = v,
                         },
                         Edit::Espill { to, from } | Edit::Ereload { to, from } => match which {

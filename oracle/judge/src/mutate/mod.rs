@@ -1,15 +1,18 @@
 //! Cases out of generated sheets: good ones, and ones damaged by byte, by row, by
-//! field (text.rs) and by meaning (meaning.rs), with both sides of every limit.
+//! field (text.rs) and by meaning (meaning.rs, recipes.rs), with both sides of every limit.
 
 mod meaning;
+mod recipes;
 mod text;
 
 use crate::frames::Case;
 use crate::generate::Gen;
+use crate::requests;
 use crate::rng::Rng;
 use crate::run;
 use crate::sheet::MAX_SHEET;
 use meaning::{blocks, edits, limit, names, operand};
+use recipes::recipe;
 use text::{byte, field, rows};
 
 fn random_call(rng: &mut Rng) -> (u32, u32) {
@@ -51,7 +54,8 @@ pub fn damaged(rng: &mut Rng) -> Case {
     // Once there are bytes, they count and no longer the sheet.
     let mut bytes: Option<Vec<u8>> = None;
     for _ in 0..times {
-        match rng.weighted(&[14, 10, 10, 10, 10, 8, 8, 5, 3, 4]) {
+        let recipes = if requests::recipes() { 14 } else { 0 };
+        match rng.weighted(&[14, 10, 10, 10, 10, 8, 8, 5, 3, 4, recipes]) {
             0 => names(rng, &mut sheet),
             1 => blocks(rng, &mut sheet),
             2 => operand(rng, &mut sheet),
@@ -62,6 +66,7 @@ pub fn damaged(rng: &mut Rng) -> Case {
             7 if rng.pct(50) => level = rng.pick(&[4, 5, 255, 65_536, u32::MAX]),
             7 => sweep = rng.pick(&[2, 3, 255, 65_536, u32::MAX]),
             8 => sheet = limit(rng, sheet),
+            10 => recipe(rng, &mut sheet),
             _ => {
                 let now = bytes.clone().unwrap_or_else(|| sheet.print());
                 if let Some(len) = answer_len(level.min(3), sweep.min(1), &now) {

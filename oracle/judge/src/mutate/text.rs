@@ -1,5 +1,6 @@
 //! Damage by text: single fields, rows and bytes.
 
+use crate::requests;
 use crate::rng::Rng;
 
 fn split(bytes: &[u8]) -> Vec<Vec<u8>> {
@@ -66,6 +67,9 @@ pub(super) fn field(rng: &mut Rng, bytes: &mut Vec<u8>) {
         7 => {
             let j = rng.below(fields.len());
             fields.swap(k, j);
+        }
+        _ if requests::recipes() && rng.pct(10) => {
+            fields[k] = rng.pick(&["irem", "iremat", "rin"]).as_bytes().to_vec()
         }
         _ => fields[k] = rng.pick(&words).as_bytes().to_vec(),
     }
