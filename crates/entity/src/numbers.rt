@@ -99,17 +99,17 @@ impl SheetByte {
 
 // The limits of the code are the limits of the definitions.
 pub fn limits_agree()
-    ensures* do_value { do ⌜ (← (⟦SpillSlot::LIMIT⟧).entry) ≡ slot_limit ⌝ }
-    ensures* do_value_2 { do ⌜ (← (⟦PhysReg::LIMIT⟧).entry) ≡ reg_limit ⌝ }
-    ensures* do_value_3 { do ⌜ (← (⟦RegUnit::LIMIT⟧).entry) ≡ unit_limit ⌝ }
-    ensures* do_value_4 { do ⌜ (← (⟦RegClass::LIMIT⟧).entry) ≡ class_limit ⌝ }
-    ensures* do_value_5 { do ⌜ (← (⟦RegGroup::LIMIT⟧).entry) ≡ group_limit ⌝ }
-    ensures* do_value_6 { do ⌜ (← (⟦Value::LIMIT⟧).entry) ≡ value_limit ⌝ }
-    ensures* do_value_7 { do ⌜ (← (⟦ValueGroup::LIMIT⟧).entry) ≡ value_group_limit ⌝ }
-    ensures* do_value_8 { do ⌜ (← (⟦Block::LIMIT⟧).entry) ≡ block_limit ⌝ }
-    ensures* do_value_9 { do ⌜ (← (⟦Inst::LIMIT⟧).entry) ≡ inst_limit ⌝ }
-    ensures* do_value_10 { do ⌜ (← (⟦OperandRow::LIMIT⟧).entry) ≡ operand_limit ⌝ }
-    ensures* do_value_11 { do ⌜ (← (⟦EditRow::LIMIT⟧).entry) ≡ edit_limit ⌝ }
-    ensures* do_value_12 { do ⌜ (← (⟦OperandIndex::LIMIT⟧).entry) ≡ reuse_limit ⌝ }
-    ensures* do_value_13 { do ⌜ (← (⟦SheetByte::LIMIT⟧).entry) ≡ byte_limit ⌝ }
+    ensures slot_limit { SpillSlot.LIMIT ≡ slot_limit }
+    ensures reg_limit { PhysReg.LIMIT ≡ reg_limit }
+    ensures unit_limit { RegUnit.LIMIT ≡ unit_limit }
+    ensures class_limit { RegClass.LIMIT ≡ class_limit }
+    ensures group_limit { RegGroup.LIMIT ≡ group_limit }
+    ensures value_limit { Value.LIMIT ≡ value_limit }
+    ensures value_group_limit { ValueGroup.LIMIT ≡ value_group_limit }
+    ensures block_limit { Block.LIMIT ≡ block_limit }
+    ensures inst_limit { Inst.LIMIT ≡ inst_limit }
+    ensures operand_limit { OperandRow.LIMIT ≡ operand_limit }
+    ensures edit_limit { EditRow.LIMIT ≡ edit_limit }
+    ensures reuse_limit { OperandIndex.LIMIT ≡ reuse_limit }
+    ensures byte_limit { SheetByte.LIMIT ≡ byte_limit }
 {}

@@ -120,7 +120,7 @@ fn holders(t: &[u32], rec: &[u32; LENGTH], v: Value) -> PhysRegSet
 
 // Some register holds v. Asked of all registers: the compiler does it four at a time.
 fn somewhere(rec: &[u32; LENGTH], v: Value) -> bool
-    ensures* { λ x. ⌜ (Long rec.now → x ≡ run (λ x r. x || Rule.holds (record_in rec.now) r v.0) false (from 0 reg_limit)) ⌝ }
+    ensures { Long rec.now → result ≡ run (λ x r. x || Rule.holds (record_in rec.now) r v.0) false (from 0 reg_limit) }
 {
     let mut x = false;
     let mut r: u32 = 0;

@@ -12,44 +12,44 @@ use entity::cells::{Mark, Number, Word};
 
 // The marks of the code are those of the definitions.
 pub fn marks_agree()
-    ensures* do_value { do ⌜ (← (⟦Number::LIMIT⟧).entry) ≡ number_limit ⌝ }
-    ensures* do_value_2 { do ⌜ (← (⟦Mark::WORD⟧).entry) ≡ word_mark ⌝ }
-    ensures* do_value_3 { do ⌜ (← (⟦Mark::REG⟧).entry) ≡ reg_mark ⌝ }
-    ensures* do_value_4 { do ⌜ (← (⟦Mark::SLOT⟧).entry) ≡ slot_mark ⌝ }
-    ensures* do_value_5 { do ⌜ (← (⟦Mark::CLASS⟧).entry) ≡ class_mark ⌝ }
-    ensures* do_value_6 { do ⌜ (← (⟦Mark::FIXED⟧).entry) ≡ fixed_mark ⌝ }
-    ensures* do_value_7 { do ⌜ (← (⟦Mark::REUSE⟧).entry) ≡ reuse_mark ⌝ }
-    ensures* do_value_8 { do ⌜ (← (⟦Mark::END⟧).entry) ≡ mark_end ⌝ }
+    ensures number_limit { Number.LIMIT ≡ number_limit }
+    ensures word_mark { Mark.WORD ≡ word_mark }
+    ensures reg_mark { Mark.REG ≡ reg_mark }
+    ensures slot_mark { Mark.SLOT ≡ slot_mark }
+    ensures class_mark { Mark.CLASS ≡ class_mark }
+    ensures fixed_mark { Mark.FIXED ≡ fixed_mark }
+    ensures reuse_mark { Mark.REUSE ≡ reuse_mark }
+    ensures mark_end { Mark.END ≡ mark_end }
 {}
 
 // So are the words.
 pub fn words_agree()
-    ensures* do_value { do ⌜ (← (⟦Word::DASH⟧).entry) ≡ word "-" ⌝ }
-    ensures* do_value_2 { do ⌜ (← (⟦Word::SLOTS⟧).entry) ≡ word "slots" ⌝ }
-    ensures* do_value_3 { do ⌜ (← (⟦Word::REG⟧).entry) ≡ word "reg" ⌝ }
-    ensures* do_value_4 { do ⌜ (← (⟦Word::CLASS⟧).entry) ≡ word "class" ⌝ }
-    ensures* do_value_5 { do ⌜ (← (⟦Word::GROUP⟧).entry) ≡ word "group" ⌝ }
-    ensures* do_value_6 { do ⌜ (← (⟦Word::VALUE⟧).entry) ≡ word "value" ⌝ }
-    ensures* do_value_7 { do ⌜ (← (⟦Word::VGROUP⟧).entry) ≡ word "vgroup" ⌝ }
-    ensures* do_value_8 { do ⌜ (← (⟦Word::BLOCK⟧).entry) ≡ word "block" ⌝ }
-    ensures* do_value_9 { do ⌜ (← (⟦Word::SUCC⟧).entry) ≡ word "succ" ⌝ }
-    ensures* do_value_10 { do ⌜ (← (⟦Word::PRED⟧).entry) ≡ word "pred" ⌝ }
-    ensures* do_value_11 { do ⌜ (← (⟦Word::PARAM⟧).entry) ≡ word "param" ⌝ }
-    ensures* do_value_12 { do ⌜ (← (⟦Word::OP⟧).entry) ≡ word "op" ⌝ }
-    ensures* do_value_13 { do ⌜ (← (⟦Word::CLOB⟧).entry) ≡ word "clob" ⌝ }
-    ensures* do_value_14 { do ⌜ (← (⟦Word::EDIT⟧).entry) ≡ word "edit" ⌝ }
-    ensures* do_value_15 { do ⌜ (← (⟦Word::DEF⟧).entry) ≡ word "def" ⌝ }
-    ensures* do_value_16 { do ⌜ (← (⟦Word::USE⟧).entry) ≡ word "use" ⌝ }
-    ensures* do_value_17 { do ⌜ (← (⟦Word::EARLY⟧).entry) ≡ word "early" ⌝ }
-    ensures* do_value_18 { do ⌜ (← (⟦Word::DEFG⟧).entry) ≡ word "defg" ⌝ }
-    ensures* do_value_19 { do ⌜ (← (⟦Word::USEG⟧).entry) ≡ word "useg" ⌝ }
-    ensures* do_value_20 { do ⌜ (← (⟦Word::EARLYG⟧).entry) ≡ word "earlyg" ⌝ }
-    ensures* do_value_21 { do ⌜ (← (⟦Word::FIXED⟧).entry) ≡ word "fixed" ⌝ }
-    ensures* do_value_22 { do ⌜ (← (⟦Word::MOVE⟧).entry) ≡ word "move" ⌝ }
-    ensures* do_value_23 { do ⌜ (← (⟦Word::REMAT⟧).entry) ≡ word "remat" ⌝ }
-    ensures* do_value_24 { do ⌜ (← (⟦Word::ESPILL⟧).entry) ≡ word "espill" ⌝ }
-    ensures* do_value_25 { do ⌜ (← (⟦Word::ERELOAD⟧).entry) ≡ word "ereload" ⌝ }
-    ensures* do_value_26 { do ⌜ (← (⟦Word::NONE⟧).entry) ≡ word "none" ⌝ }
+    ensures dash { Word.DASH ≡ word "-" }
+    ensures slots { Word.SLOTS ≡ word "slots" }
+    ensures reg { Word.REG ≡ word "reg" }
+    ensures class { Word.CLASS ≡ word "class" }
+    ensures group { Word.GROUP ≡ word "group" }
+    ensures value { Word.VALUE ≡ word "value" }
+    ensures vgroup { Word.VGROUP ≡ word "vgroup" }
+    ensures block { Word.BLOCK ≡ word "block" }
+    ensures succ { Word.SUCC ≡ word "succ" }
+    ensures pred { Word.PRED ≡ word "pred" }
+    ensures param { Word.PARAM ≡ word "param" }
+    ensures op { Word.OP ≡ word "op" }
+    ensures clob { Word.CLOB ≡ word "clob" }
+    ensures edit { Word.EDIT ≡ word "edit" }
+    ensures def { Word.DEF ≡ word "def" }
+    ensures use { Word.USE ≡ word "use" }
+    ensures early { Word.EARLY ≡ word "early" }
+    ensures defg { Word.DEFG ≡ word "defg" }
+    ensures useg { Word.USEG ≡ word "useg" }
+    ensures earlyg { Word.EARLYG ≡ word "earlyg" }
+    ensures fixed { Word.FIXED ≡ word "fixed" }
+    ensures move { Word.MOVE ≡ word "move" }
+    ensures remat { Word.REMAT ≡ word "remat" }
+    ensures espill { Word.ESPILL ≡ word "espill" }
+    ensures ereload { Word.ERELOAD ≡ word "ereload" }
+    ensures none { Word.NONE ≡ word "none" }
 {}
 
 // Each mark and each word is the cell that the definitions find for it.

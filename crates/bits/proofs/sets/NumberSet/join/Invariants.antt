@@ -1,0 +1,16 @@
+use mathlib.Core.Path.{refl, ap, ◌∙◌}
+use Prim.Native.Nat.{◌-◌, ◌^◌}
+use native.Mathlib.Omega.{arith}
+use borrow.Author.Rules.{rules}
+use lib.Bits.{bit_or}
+use lib.ListN.{get_or}
+use Rattle.laws.proofs.Lists.{MapTo, map_none, map_store}
+use Rattle.laws.proofs.Words.{join_is, words}
+use Rattle.bits.specs.Sets.{made}
+use Rattle.bits.proofs.sets.NumberSet.join.Given as goal
+
+abbrev pub invariant-loop-i : goal.invariant-loop-i
+invariant-loop-i l = MapTo 0 (λ j x. bit_or x (get_or l.other.words j 0)) l.initial.self.words l.i l.self.words
+
+abbrev pub decreases-loop-i : goal.decreases-loop-i
+decreases-loop-i l = 2 ^ 64 - l.i

@@ -1,0 +1,15 @@
+use mathlib.Core.Path.{◌≡◌, sym}
+use mathlib.Core.Bool.{false}
+use Prim.Native.Nat.{ℕ, ◌<◌, ◌-◌, ◌*◌, ◌^◌}
+use native.Mathlib.Nat.{le_refl, le_of_lt}
+use native.Mathlib.Omega.{arith}
+use Rattle.laws.proofs.First.{first_at, first_none}
+use Rattle.laws.proofs.Words.{below_word, at_lowest}
+use Rattle.bits.specs.Sets.{has}
+use Rattle.bits.proofs.sets.NumberSet.lowest.Given as goal
+
+abbrev pub invariant-loop-i : goal.invariant-loop-i
+invariant-loop-i l = (k : ℕ) → k < l.i * 64 → has l.self k ≡ false
+
+abbrev pub decreases-loop-i : goal.decreases-loop-i
+decreases-loop-i l = 2 ^ 64 - l.i
