@@ -1,6 +1,6 @@
 -- Refusal 5 in the steps in which the code goes: what is asked of one operand.
 use Rattle.std.specs.Prelude.{Bool, true, false, ◌&&◌, cond, List, map, ℕ, ◌+◌, ◌*◌, eqb, ltb, length, get_or}
-use Rattle.std.proofs.Math.Option.{Option·elim}
+use Rattle.std.proofs.Math.Option.{Option-elim}
 use Rattle.entity.specs.declared.forms.Constraint.{Constraint, TheVariants.Class, TheVariants.Fixed, TheVariants.Reuse}
 use Rattle.rules.specs.Sheet.{Sheet, OpRow, GroupRow}
 use Rattle.rules.specs.Accept.{operand, reuse_holds, headed_by, constraint_holds, fixed_holds, group_holds}
@@ -32,7 +32,7 @@ module _ (sh : Sheet) where
 
   -- o may reuse operand k of its instruction
   unfoldable pub reuses : OpRow → ℕ → Bool
-  reuses o k = Option·elim (operand sh o k) false (reuse_holds sh o)
+  reuses o k = Option-elim (operand sh o k) false (reuse_holds sh o)
 
   unfoldable pub operand_holds : OpRow → Bool
   operand_holds o = constraint_holds sh o && fixed_holds sh o && group_holds sh o

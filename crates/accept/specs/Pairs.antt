@@ -1,6 +1,6 @@
 -- Refusal 6 in the steps in which the code goes: the emergency spill that is not yet closed, home slots and shared units as sets, and what is asked of one edit.
 use Rattle.std.specs.Prelude.{Bool, true, false, cond, ◌&&◌, ◌||◌, List, map, ℕ, zero, suc, eqb}
-use Rattle.std.proofs.Math.Option.{none, some, Option·elim}
+use Rattle.std.proofs.Math.Option.{none, some, Option-elim}
 use Rattle.laws.specs.Lists.{all, any, is_in, from}
 use Rattle.bits.specs.Sets.{set_of}
 use Rattle.bits.specs.declared.sets.NumberSet.{NumberSet}
@@ -44,7 +44,7 @@ edits_of rows = map (λ e. e.edit) rows
 module _ (sh : Sheet) where
   -- s is the home slot of a value
   unfoldable pub is_home_of : ℕ → Bool
-  is_home_of s = any (λ h. Option·elim h false (eqb s)) sh.values
+  is_home_of s = any (λ h. Option-elim h false (eqb s)) sh.values
 
   unfoldable pub home_set : NumberSet
   home_set = set_of is_home_of

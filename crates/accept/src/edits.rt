@@ -1,6 +1,6 @@
 // Refusal 6: the edit rules. An instruction's edits are looked up only once they stand in order, and only where one of the edits is an emergency.
 ghost use Rattle.std.specs.Prelude.{◌≡◌, Bool, true, false, ◌||◌, [], ℕ, ◌-◌, eqb, take, drop};
-ghost use Rattle.std.proofs.Math.Option.{none, Option·elim};
+ghost use Rattle.std.proofs.Math.Option.{none, Option-elim};
 ghost use Rattle.laws.specs.Lists.{all, from};
 ghost use Rattle.bits.specs.Sets.{set_of};
 ghost use Rattle.rules.specs.Sheet.{home_of, block_count};
@@ -193,7 +193,7 @@ fn all_paired(t: &[u32]) -> bool
 
 // The set with the home slot of v, if any.
 fn with_home(t: &[u32], s: SlotSet, v: Value) -> SlotSet
-    ensures { (f : ℕ → Bool) → s.0 ≡ set_of f → result.0 ≡ set_of (λ k. f k || Option·elim (home_of (sheet_in t.now) v.0) false (eqb k)) }
+    ensures { (f : ℕ → Bool) → s.0 ≡ set_of f → result.0 ≡ set_of (λ k. f k || Option-elim (home_of (sheet_in t.now) v.0) false (eqb k)) }
 {
     let FoundSlot::At(h) = home(t, v) else {
         return s;

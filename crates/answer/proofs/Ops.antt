@@ -12,7 +12,7 @@ use Rattle.laws.specs.Lists.{all, keep}
 use Rattle.laws.proofs.Cases.{by_bool}
 use Rattle.rules.proofs.Words.{op_word}
 use Rattle.rules.specs.Cells.{word, class_mark, reg_mark}
-use Rattle.rules.specs.Rows.{Field, number, dash, place, constraint, only, ◌upTo◌, field_ok, end, ◌▸◌, fits, op_shape, kinds, kind_from, kind, pairs_ok, row_ok, sheet_ok, reading}
+use Rattle.rules.specs.Rows.{Field, number, dash, place, constraint, only, ◌up_to◌, field_ok, end, ◌▸◌, fits, op_shape, kinds, kind_from, kind, pairs_ok, row_ok, sheet_ok, reading}
 use Rattle.rules.specs.Sheet.{field}
 use Rattle.table.specs.Rows.{count_in, kind_row}
 use Rattle.table.specs.Index.{Ready}

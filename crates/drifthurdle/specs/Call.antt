@@ -1,6 +1,6 @@
 -- What the call promises: the answer, and the output buffer afterwards.
 use Rattle.std.specs.Prelude.{◌≡◌, Bool, List, ℕ, length}
-use Rattle.std.proofs.Math.Option.{Option, some, Option·elim}
+use Rattle.std.proofs.Math.Option.{Option, some, Option-elim}
 use Rattle.entity.specs.declared.forms.Level.{Level}
 use Rattle.entity.specs.declared.forms.Refusal.{Refusal, TheVariants.Rows}
 use Rattle.rules.specs.{Rows.rows_of, Sheet.sheet_of}
@@ -11,7 +11,7 @@ use Rattle.drifthurdle.specs.declared.Outcome.TheVariants as Outcome
 
 -- 1 to 6 and 9 to 12: "Checks go in the table's order, each over the whole sheet; no number is given otherwise."
 unfoldable pub sheet_refusal : List ℕ → Option Refusal
-sheet_refusal sheet = Option·elim (rows_of sheet) (some Rows) (λ rows. first_refusal (checks (sheet_of rows)))
+sheet_refusal sheet = Option-elim (rows_of sheet) (some Rows) (λ rows. first_refusal (checks (sheet_of rows)))
 
 -- the table holds these rows, and its index is built
 pub record TableOf (rs : List (List ℕ)) (t : List ℕ) : Type 0 where
@@ -20,7 +20,7 @@ pub record TableOf (rs : List (List ℕ)) (t : List ℕ) : Type 0 where
 
 -- the answer, where 7 is not given
 unfoldable pub sheet_answer : List ℕ → Level → Bool → ℕ → Answer
-sheet_answer sheet level swept capacity = Option·elim (rows_of sheet) (refused Rows) (λ rows. checked level swept capacity (sheet_of rows))
+sheet_answer sheet level swept capacity = Option-elim (rows_of sheet) (refused Rows) (λ rows. checked level swept capacity (sheet_of rows))
 
 -- the answer as the code's enum
 unfoldable pub as_outcome : Answer → Outcome

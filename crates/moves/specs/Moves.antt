@@ -1,7 +1,7 @@
 -- A move or remat in the optimising walk by its parts: what becomes of it, what that makes of the edits and the counts, and of the record.
 -- Together they are `optimise_move` of the rules.
 use Rattle.std.specs.Prelude.{cond, ◌||◌, ℕ, ◌<◌, set}
-use Rattle.std.proofs.Math.Option.{Option, none, some, Option·elim}
+use Rattle.std.proofs.Math.Option.{Option, none, some, Option-elim}
 use Rattle.entity.specs.declared.forms.Place.{Place, TheVariants.Reg}
 use Rattle.entity.specs.declared.forms.Edit.{Edit, TheVariants.Move, TheVariants.Remat, TheVariants.Nothing}
 use Rattle.rules.specs.{Cells.number_limit, Sheet.Sheet, Record.Record, Record.arrive}
@@ -35,7 +35,7 @@ fate_by (some r) = Sourced (record { 0 = r })
 module _ (sh : Sheet) where
   -- the register that takes the place of a source in memory
   abbrev pub source_for : Option Place → ℕ → Record → Option ℕ
-  source_for p v s = Option·elim p none (λ q. new_source sh q v s)
+  source_for p v s = Option-elim p none (λ q. new_source sh q v s)
 
   -- the record after a move or remat that stays
   unfoldable pub settled : ℕ → Arrival → Record → Record

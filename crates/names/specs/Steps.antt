@@ -1,6 +1,6 @@
 -- Refusals 2 and 3 in the steps in which the code goes: parts of `within_limits` and `all_named`, and what they ask of one row.
 use Rattle.std.specs.Prelude.{Bool, true, ◌&&◌, ℕ, leb, ltb, length}
-use Rattle.std.proofs.Math.Option.{Option·elim}
+use Rattle.std.proofs.Math.Option.{Option-elim}
 use Rattle.laws.specs.Lists.{all}
 use Rattle.entity.specs.Limits.{slot_limit, reg_limit, class_limit, group_limit, value_limit, value_group_limit}
 use Rattle.rules.specs.Sheet.{Sheet, GroupRow, ListRow, ParamRow, OpRow, EditRow, reg_count}
@@ -45,7 +45,7 @@ module _ (sh : Sheet) where
   machine_named =
       all (λ c. all (reg_exists sh) c.members) sh.classes
       && all (group_named sh) sh.groups
-      && all (λ h. Option·elim h true (slot_exists sh)) sh.values
+      && all (λ h. Option-elim h true (slot_exists sh)) sh.values
       && all (λ g. all (value_exists sh) g) sh.vgroups
 
   -- what operands, clobbers and edits name

@@ -1,7 +1,7 @@
 // Refusal 3: each row names what there is, no list has one thing twice, and no two groups share class and first register.
 // Units are below 128 and numbers that exist below 256, as the limits hold: sets hold them all.
 ghost use Rattle.std.specs.Prelude.{◌≡◌, true, not, ◌&&◌, ◌+◌, ltb, get_or, drop};
-ghost use Rattle.std.proofs.Math.Option.{Option·elim};
+ghost use Rattle.std.proofs.Math.Option.{Option-elim};
 ghost use Rattle.laws.specs.Lists.{all, any, twice};
 ghost use Rattle.bits.specs.Sets.{has, set_of, set_limit};
 ghost use Rattle.rules.specs.Sheet.{list_row, class_row, home_of, values_of, block_row};
@@ -179,7 +179,7 @@ fn groups_named(t: &[u32]) -> bool
 }
 
 fn home_named(t: &[u32], v: Value) -> bool
-    ensures { result ≡ Option·elim (home_of (sheet_in t.now) v.0) true (slot_exists (sheet_in t.now)) }
+    ensures { result ≡ Option-elim (home_of (sheet_in t.now) v.0) true (slot_exists (sheet_in t.now)) }
 {
     match home(t, v) {
         FoundSlot::At(s) => slot_exists(t, s),
@@ -188,7 +188,7 @@ fn home_named(t: &[u32], v: Value) -> bool
 }
 
 fn homes_named(t: &[u32]) -> bool
-    ensures { result ≡ all (λ h. Option·elim h true (slot_exists (sheet_in t.now))) (sheet_in t.now).values }
+    ensures { result ≡ all (λ h. Option-elim h true (slot_exists (sheet_in t.now))) (sheet_in t.now).values }
 {
     let rows = count(t, Kind::VALUE);
     let mut v: u32 = 0;
@@ -222,7 +222,7 @@ fn vgroups_named(t: &[u32]) -> bool
 }
 
 fn idom_named(t: &[u32], b: Block) -> bool
-    ensures { result ≡ Option·elim (block_row (sheet_in t.now) b.0).idom true (block_exists (sheet_in t.now)) }
+    ensures { result ≡ Option-elim (block_row (sheet_in t.now) b.0).idom true (block_exists (sheet_in t.now)) }
 {
     match idom(t, b) {
         FoundBlock::At(i) => block_exists(t, i),
@@ -231,7 +231,7 @@ fn idom_named(t: &[u32], b: Block) -> bool
 }
 
 fn idoms_named(t: &[u32]) -> bool
-    ensures { result ≡ all (λ b. Option·elim b.idom true (block_exists (sheet_in t.now))) (sheet_in t.now).blocks }
+    ensures { result ≡ all (λ b. Option-elim b.idom true (block_exists (sheet_in t.now))) (sheet_in t.now).blocks }
 {
     let rows = count(t, Kind::BLOCK);
     let mut b: u32 = 0;

@@ -1,7 +1,7 @@
 -- Document 01, "The call" and "What is accepted", and document 02, request 1: refusals 2 to 6 and 9 to 12, a Bool for each rule, true where the sheet
 -- keeps it; of a rule of one block, true where the block keeps it, and the lowest that does not.
 use Rattle.std.specs.Prelude.{Bool, true, false, cond, not, ◌&&◌, ◌||◌, List, [], ◌∷◌, map, ℕ, zero, suc, ◌+◌, T, eqb, leb, ltb, length, get_or}
-use Rattle.std.proofs.Math.Option.{Option, none, some, bind, Option·elim}
+use Rattle.std.proofs.Math.Option.{Option, none, some, bind, Option-elim}
 use Rattle.laws.specs.First.{first}
 use Rattle.laws.specs.Lists.{all, any, keep, is_in, twice, from}
 use Rattle.entity.specs.Limits.{slot_limit, reg_limit, unit_limit, class_limit, group_limit, value_limit, value_group_limit, block_limit, inst_limit, operand_limit, edit_limit, reuse_limit}
@@ -94,9 +94,9 @@ module _ (sh : Sheet) where
   all_named =
       all (λ c. all reg_exists c.members) sh.classes
       && all (λ g. class_exists g.class && all reg_exists g.regs) sh.groups
-      && all (λ h. Option·elim h true slot_exists) sh.values
+      && all (λ h. Option-elim h true slot_exists) sh.values
       && all (λ g. all value_exists g) sh.vgroups
-      && all (λ b. Option·elim b.idom true block_exists) sh.blocks
+      && all (λ b. Option-elim b.idom true block_exists) sh.blocks
       && all (λ s. block_exists s.at && all block_exists s.list) sh.succs
       && all (λ p. block_exists p.at && all block_exists p.list) sh.preds
       && all (λ p. block_exists p.at && value_exists p.value && place_exists p.place) sh.params
@@ -165,7 +165,7 @@ module _ (sh : Sheet) where
 
   -- "or idom not smaller"
   unfoldable pub idom_smaller : ℕ → Bool
-  idom_smaller b = Option·elim (block_row sh b).idom true (λ i. ltb i b)
+  idom_smaller b = Option-elim (block_row sh b).idom true (λ i. ltb i b)
 
   unfoldable pub smaller_hold : ℕ → Bool
   smaller_hold b = sole_pred_smaller b && idom_smaller b
@@ -241,7 +241,7 @@ module _ (sh : Sheet) where
   -- "reuse on anything but `def` or `defg`, or not naming, in the same instruction, a `use` for `def` or `useg` for `defg`, either of class
   -- constraint and the same place"
   unfoldable pub reuse_holds : OpRow → OpRow → Bool
-  reuse_holds o u = kinds_match o.kind u.kind && Option·elim (class_of u.constraint) false (λ c. true) && same_place u.place o.place
+  reuse_holds o u = kinds_match o.kind u.kind && Option-elim (class_of u.constraint) false (λ c. true) && same_place u.place o.place
 
   -- "fixed place anything but that register"
   unfoldable pub constraint_holds : OpRow → Bool
@@ -249,7 +249,7 @@ module _ (sh : Sheet) where
       elim o.constraint [
         | Class c ↦ in_class c.0 o.place
         | Fixed r ↦ same_place o.place (Reg r)
-        | Reuse k ↦ Option·elim (operand o k.0) false (reuse_holds o)
+        | Reuse k ↦ Option-elim (operand o k.0) false (reuse_holds o)
       ]
 
   -- "`fixed` without `f`"
@@ -262,7 +262,7 @@ module _ (sh : Sheet) where
 
   -- "group kind in a slot, with `f`, or ..": g is the value group
   unfoldable pub group_at : OpRow → ℕ → Bool
-  group_at o g = elim o.place [ Reg r ↦ Option·elim (class_for o) false (λ c. begins_group c r.0 (length (values_of sh g))) | Slot s ↦ false ]
+  group_at o g = elim o.place [ Reg r ↦ Option-elim (class_for o) false (λ c. begins_group c r.0 (length (values_of sh g))) | Slot s ↦ false ]
 
   unfoldable pub group_holds : OpRow → Bool
   group_holds o =
@@ -302,7 +302,7 @@ module _ (sh : Sheet) where
 
   -- "the pair's slot is a home slot"
   unfoldable pub no_home : ℕ → Bool
-  no_home s = not (any (λ h. Option·elim h false (eqb s)) sh.values)
+  no_home s = not (any (λ h. Option-elim h false (eqb s)) sh.values)
 
   -- "its register shares a unit with another register"
   unfoldable pub apart : ℕ → Bool

@@ -1,7 +1,7 @@
 -- Document 01, "The call", with the finer refusals of document 02, request 1: the answer for every sheet, level, sweep flag and length of the output buffer.
 use Rattle.std.specs.Prelude.{Bool, true, false, cond, ℕ, ◌+◌, leb, eqb, length, get_or, drop, ℤ, pos, neg_ℤ}
 use mathlib.Core.List.{List, [], ◌∷◌, ◌++◌, map, flat_map, zip}
-use Rattle.std.proofs.Math.Option.{Option, none, some, Option·elim}
+use Rattle.std.proofs.Math.Option.{Option, none, some, Option-elim}
 use Rattle.laws.specs.Lists.{from}
 use Rattle.entity.specs.Forms.{level_of, sum_of}
 use Rattle.entity.specs.declared.forms.Level.{Level}
@@ -89,7 +89,7 @@ first_refusal [] = none
 first_refusal (c ∷ cs) = cond c.0 (first_refusal cs) (some c.1)
 
 unfoldable pub checked : Level → Bool → ℕ → Sheet → Answer
-checked level swept capacity sh = Option·elim (first_refusal (checks sh)) (fitted (cleaned sh level swept) capacity) refused
+checked level swept capacity sh = Option-elim (first_refusal (checks sh)) (fitted (cleaned sh level swept) capacity) refused
 
 -- 7: "level over 3 or sweep flag over 1"
 unfoldable pub called : ℕ → ℕ → Option (Level × Bool)
@@ -97,8 +97,8 @@ called level flag = elim (level_of level) [ Found.At l ↦ cond (leb flag 1) (so
 
 unfoldable pub answer : List ℕ → ℕ → ℕ → ℕ → Answer
 answer sheet level flag capacity =
-    Option·elim (called level flag) (refused Call) (λ c.
-    Option·elim (rows_of sheet) (refused Rows) (λ rows. checked c.0 c.1 capacity (sheet_of rows)))
+    Option-elim (called level flag) (refused Call) (λ c.
+    Option-elim (rows_of sheet) (refused Rows) (λ rows. checked c.0 c.1 capacity (sheet_of rows)))
 
 -- "It returns how many bytes it wrote", or "minus (100 times the row plus the number)"
 unfoldable pub returned : Answer → ℤ

@@ -2,7 +2,7 @@
 use Rattle.std.specs.Prelude.{Bool, true, false, cond, not, ◌&&◌, ◌||◌, ℕ, zero, suc, ◌+◌, ◌*◌, eqb, leb, ltb, length, get_or, set, replicate}
 use mathlib.Core.List.{List, [], ◌∷◌, map, flat_map, zip, zip_with}
 use Rattle.std.proofs.Math.Option
-use Rattle.std.proofs.Math.Option.{Option, none, some, Option·elim}
+use Rattle.std.proofs.Math.Option.{Option, none, some, Option-elim}
 use Rattle.laws.specs.{First.first, Fold.run}
 use Rattle.laws.specs.Lists.{any, keep, is_in, from}
 use Rattle.entity.specs.Limits.{slot_limit, reg_limit}
@@ -64,7 +64,7 @@ module _ (sh : Sheet) where
   -- "Dominance climbs from block to idom, the block number falling at each call; a block dominates itself."
   unfoldable pub climbs : ℕ → ℕ → ℕ → Bool
   climbs zero a b = eqb a b
-  climbs (suc n) a b = eqb a b || Option·elim (block_row sh b).idom false (λ i. ltb i b && climbs n a i)
+  climbs (suc n) a b = eqb a b || Option-elim (block_row sh b).idom false (λ i. ltb i b && climbs n a i)
 
   unfoldable pub dominates : ℕ → ℕ → Bool
   dominates a b = climbs b a b
@@ -157,7 +157,7 @@ module _ (sh : Sheet) where
 
   unfoldable pub fold : Walk → ℕ × ℕ × OpRow → Walk
   fold w x =
-      Option·elim (fold_to x.2 x.0 w.rec) w (λ r.
+      Option-elim (fold_to x.2 x.0 w.rec) w (λ r.
       record { rec = w.rec; edits = w.edits; places = set w.places x.1 (Reg (record { 0 = r })); counts = count stack_use w.counts })
 
   -- "In the optimising walk, early definitions come first, then folding, then the others"
@@ -212,7 +212,7 @@ module _ (sh : Sheet) where
         | true ↦ becomes j Nothing (count (removal to p) w.counts) w.rec w
         | false ↦
             let s = note_spill b to v w.rec in
-            Option·elim (Option·elim p none (λ q. new_source q v s)) (becomes j e w.counts s w) (λ r.
+            Option-elim (Option-elim p none (λ q. new_source q v s)) (becomes j e w.counts s w) (λ r.
             becomes j (Move to (Reg (record { 0 = r })) (record { 0 = v })) (count reload_to_move w.counts) s w)
       ]
 
@@ -263,7 +263,7 @@ module _ (sh : Sheet) where
   -- "successors wait after the first, and again if some went"
   unfoldable pub hand_to : ℕ → Record → Handed → ℕ → Handed
   hand_to b s h t =
-      Option·elim (get_or h.states t none)
+      Option-elim (get_or h.states t none)
       (record { states = set h.states t (some (first_state (succs_of sh b) s)); waiting = t ∷ h.waiting })
       (λ k.
       let l = meet k s.known in
@@ -309,7 +309,7 @@ module _ (sh : Sheet) where
   -- "and visits the smallest waiting block"
   unfoldable pub visits : ℕ → Walk × Handed → Walk × Handed
   visits zero wh = wh
-  visits (suc n) wh = Option·elim (first some none (λ b. is_in b wh.1.waiting) 0 (block_count sh)) wh (λ b. visits n (visit wh b))
+  visits (suc n) wh = Option-elim (first some none (λ b. is_in b wh.1.waiting) 0 (block_count sh)) wh (λ b. visits n (visit wh b))
 
   -- A block waits at first if it is an entry, once when its state is first set, and again only when that lost one of its pairs, of which there is
   -- at most one for each register and slot.

@@ -2,7 +2,7 @@
 -- "The record holds: which registers hold a value, the last (register, value) per unit, which slot holds its value, each value's defining block
 -- and last spilled block." The first three are `writes` and `known`. `absent` stands where there is none.
 use Rattle.std.specs.Prelude.{Bool, false, cond, not, ◌&&◌, ◌||◌, List, map, ℕ, eqb, length, get_or, set, replicate}
-use Rattle.std.proofs.Math.Option.{Option·elim}
+use Rattle.std.proofs.Math.Option.{Option-elim}
 use Rattle.laws.specs.{Fold.run, Lists.all}
 use Rattle.entity.specs.Limits.{slot_limit, reg_limit, unit_limit, value_limit}
 use Rattle.rules.specs.Sheet.{Place, Reg, Slot, Edit, Move, Remat, Espill, Ereload, Misplaced, Nothing, Sheet, units_of, home_of}
@@ -108,11 +108,11 @@ module _ (sh : Sheet) where
 
   -- v's home slot holds nothing
   unfoldable pub empty_home : ℕ → Record → Record
-  empty_home v s = Option·elim (home_of sh v) s (λ h. store h absent s)
+  empty_home v s = Option-elim (home_of sh v) s (λ h. store h absent s)
 
   -- slot t is v's home slot
   unfoldable pub is_home : ℕ → ℕ → Bool
-  is_home v t = Option·elim (home_of sh v) false (λ h. eqb h t)
+  is_home v t = Option-elim (home_of sh v) false (λ h. eqb h t)
 
   -- "*Defining* v makes this its defining block. In a register: forgets its units, writes them, makes that v's only register and empties v's
   -- home slot. In its home slot: no registers, the slot holds v, last spilled block is this one. In another slot: no registers; home slot and

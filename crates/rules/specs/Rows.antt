@@ -5,7 +5,7 @@ use Prim.Native.Char.{code}
 use Prim.Native.String.{String}
 use mathlib.Core.List.{List, [], ◌∷◌, ◌++◌, map, flat_map}
 use Rattle.std.proofs.Math.Option
-use Rattle.std.proofs.Math.Option.{Option, none, some, bind, or_else, Option·elim}
+use Rattle.std.proofs.Math.Option.{Option, none, some, bind, or_else, Option-elim}
 use Rattle.rules.specs.Text.{bytes, same}
 use Rattle.laws.specs.Lists.{all}
 use Rattle.entity.specs.Limits.{byte_limit}
@@ -46,17 +46,17 @@ unfoldable pub cells_of : List ℕ → Option (List (List ℕ))
 cells_of s = bind (cut s false) (every (every cell_of))
 
 -- What a field may be. "Flags are 0 or 1." `only w` is that word, `v up_to w` one of the words from v to w.
-infix 45 ◌upTo◌
+infix 45 ◌up_to◌
 pub data Field : Type 0 where
-  number flag dash numberOrDash place constraint : Field
+  number flag dash number_or_dash place constraint : Field
   only : String → Field
-  ◌upTo◌ : String → String → Field
+  ◌up_to◌ : String → String → Field
 
 unfoldable pub field_ok : Field → ℕ → Bool
 field_ok number c = ltb c number_limit
 field_ok flag c = ltb c 2
 field_ok dash c = eqb c (word "-")
-field_ok numberOrDash c = ltb c number_limit || eqb c (word "-")
+field_ok number_or_dash c = ltb c number_limit || eqb c (word "-")
 field_ok place c = leb reg_mark c && ltb c class_mark
 field_ok constraint c = leb class_mark c && ltb c mark_end
 field_ok (only w) c = eqb c (word w)
@@ -113,9 +113,9 @@ kinds =
     ∷ record { name = "reg"; order = counts; shape = number ▸ flag ▸ list₁ }
     ∷ record { name = "class"; order = counts; shape = number ▸ flag ▸ list }
     ∷ record { name = "group"; order = counts; shape = number ▸ number ▸ list₁ }
-    ∷ record { name = "value"; order = counts; shape = number ▸ numberOrDash ▸ end }
+    ∷ record { name = "value"; order = counts; shape = number ▸ number_or_dash ▸ end }
     ∷ record { name = "vgroup"; order = counts; shape = number ▸ list₁ }
-    ∷ record { name = "block"; order = counts; shape = number ▸ number ▸ numberOrDash ▸ flag ▸ end }
+    ∷ record { name = "block"; order = counts; shape = number ▸ number ▸ number_or_dash ▸ flag ▸ end }
     ∷ record { name = "succ"; order = rises; shape = number ▸ list₁ }
     ∷ record { name = "pred"; order = rises; shape = number ▸ list₁ }
     ∷ record { name = "param"; order = never_falls; shape = number ▸ number ▸ place ▸ end }
@@ -138,7 +138,7 @@ first r = get_or r 1 0
 -- a row by itself: one of the kinds, and of its shape
 unfoldable pub row_ok : List ℕ → Bool
 row_ok [] = false
-row_ok (c ∷ cs) = Option·elim (kind_from kinds c) false (λ k. fits k.shape cs)
+row_ok (c ∷ cs) = Option-elim (kind_from kinds c) false (λ k. fits k.shape cs)
 
 -- a first field where its kind begins, and after a row of its kind whose first field is x
 unfoldable pub begins : Order → ℕ → Bool
@@ -154,7 +154,7 @@ goes_on free x n = true
 -- "Kinds come in this order": a row r that follows the row p is of a later kind and begins it, or of the same kind and goes on
 unfoldable pub pair_ok : List ℕ → List ℕ → Bool
 pair_ok p r =
-    Option·elim (kind_from kinds (kind r)) false (λ k.
+    Option-elim (kind_from kinds (kind r)) false (λ k.
     (ltb (kind p) (kind r) && begins k.order (first r)) || (eqb (kind p) (kind r) && goes_on k.order (first p) (first r)))
 
 unfoldable pub pairs_ok : List ℕ → List (List ℕ) → Bool
@@ -180,5 +180,5 @@ row_text r = line_of (map field_of r)
 
 -- `unfolding reading` opens all of the above
 unfoldable pub reading : Bool
-unfolding bytes same all find is_digit decimal no_leading_zero number_of marks marked_of words word_of cell_of word digits_in digits_of field_of bind or_else Option·elim flat_map new_row new_field onto cut every cells_of field_ok fits op_shape edit_shape kinds kind_from row_ok begins goes_on pair_ok pairs_ok sheet_ok rows_of line_of row_text
+unfolding bytes same all find is_digit decimal no_leading_zero number_of marks marked_of words word_of cell_of word digits_in digits_of field_of bind or_else Option-elim flat_map new_row new_field onto cut every cells_of field_ok fits op_shape edit_shape kinds kind_from row_ok begins goes_on pair_ok pairs_ok sheet_ok rows_of line_of row_text
 reading = true

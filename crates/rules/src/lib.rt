@@ -39,13 +39,13 @@ pub fn words_agree()
     ensures clob { Word.CLOB ≡ word "clob" }
     ensures edit { Word.EDIT ≡ word "edit" }
     ensures def { Word.DEF ≡ word "def" }
-    ensures use { Word.USE ≡ word "use" }
+    ensures use_word { Word.USE ≡ word "use" }
     ensures early { Word.EARLY ≡ word "early" }
     ensures defg { Word.DEFG ≡ word "defg" }
     ensures useg { Word.USEG ≡ word "useg" }
     ensures earlyg { Word.EARLYG ≡ word "earlyg" }
     ensures fixed { Word.FIXED ≡ word "fixed" }
-    ensures move { Word.MOVE ≡ word "move" }
+    ensures move_word { Word.MOVE ≡ word "move" }
     ensures remat { Word.REMAT ≡ word "remat" }
     ensures espill { Word.ESPILL ≡ word "espill" }
     ensures ereload { Word.ERELOAD ≡ word "ereload" }

@@ -10,7 +10,7 @@ use borrow.Author.Tests.{lt-ltb, le-ltb, lt-leb, le-leb, ne_eqb}
 use Rattle.laws.specs.Lists.{all}
 use Rattle.laws.proofs.Cases.{by_lt}
 use Rattle.rules.specs.Cells.{number_limit}
-use Rattle.rules.specs.Rows.{Field, number, flag, dash, place, constraint, only, ◌upTo◌, field_ok, Shape, end, list, list₁, ◌▸◌, fits, op_shape, edit_shape, row_ok}
+use Rattle.rules.specs.Rows.{Field, number, flag, dash, place, constraint, only, ◌up_to◌, field_ok, Shape, end, list, list₁, ◌▸◌, fits, op_shape, edit_shape, row_ok}
 use Rattle.sheet.specs.Grammar.{plain_op, fixed_op, fits_kind}
 use Rattle.sheet.proofs.Lists.{drop_step, drop_end, part_rest}
 

@@ -1,7 +1,7 @@
 -- `row_ok` and `pair_ok` of rules by a row's kind and first field, and the shapes of rules apart.
 use Rattle.std.specs.Prelude.{ℕ, Bool, false, ◌&&◌, ◌||◌, List, eqb, ltb}
-use Rattle.std.proofs.Math.Option.{Option·elim}
-use Rattle.rules.specs.Rows.{Shape, number, dash, place, constraint, only, ◌upTo◌, end, ◌▸◌, fits, kinds, kind_from, begins, goes_on}
+use Rattle.std.proofs.Math.Option.{Option-elim}
+use Rattle.rules.specs.Rows.{Shape, number, dash, place, constraint, only, ◌up_to◌, end, ◌▸◌, fits, kinds, kind_from, begins, goes_on}
 
 -- an operand; and the four sorts of edit
 unfoldable pub plain_op : Shape
@@ -24,15 +24,15 @@ none_edit = number ▸ only "none" ▸ dash ▸ dash ▸ dash ▸ end
 
 -- cs may stand after the word c
 unfoldable pub fits_kind : ℕ → List ℕ → Bool
-fits_kind c cs = Option·elim (kind_from kinds c) false (λ k. fits k.shape cs)
+fits_kind c cs = Option-elim (kind_from kinds c) false (λ k. fits k.shape cs)
 
 -- a first field n of kind c, where it begins and after a first field x
 unfoldable pub begins_kind : ℕ → ℕ → Bool
-begins_kind c n = Option·elim (kind_from kinds c) false (λ k. begins k.order n)
+begins_kind c n = Option-elim (kind_from kinds c) false (λ k. begins k.order n)
 
 unfoldable pub goes_on_kind : ℕ → ℕ → ℕ → Bool
-goes_on_kind c x n = Option·elim (kind_from kinds c) false (λ k. goes_on k.order x n)
+goes_on_kind c x n = Option-elim (kind_from kinds c) false (λ k. goes_on k.order x n)
 
 -- a row of kind c with first field n may follow one of kind p with first field x
 unfoldable pub follows : ℕ → ℕ → ℕ → ℕ → Bool
-follows p x c n = Option·elim (kind_from kinds c) false (λ k. (ltb p c && begins k.order n) || (eqb p c && goes_on k.order x n))
+follows p x c n = Option-elim (kind_from kinds c) false (λ k. (ltb p c && begins k.order n) || (eqb p c && goes_on k.order x n))

@@ -1,7 +1,7 @@
 // A row by itself: what a field may be, and which fields may stand after a kind's word. How rows follow each other is left to grammar.
 ghost use Rattle.std.specs.Prelude.{◌≡◌, ◌&&◌, [], ◌∷◌, ◌≤◌, leb, length, get_or};
 ghost use Rattle.laws.specs.Lists.{all};
-ghost use Rattle.rules.specs.Rows.{field_ok, number, flag, dash, numberOrDash, place, constraint};
+ghost use Rattle.rules.specs.Rows.{field_ok, number, flag, dash, number_or_dash, place, constraint};
 ghost use Rattle.rules.specs.Rows.{fits, end, ◌▸◌, op_shape, edit_shape, row_ok};
 ghost use Rattle.sheet.specs.Grammar.{plain_op, fixed_op, move_edit, remat_edit, pair_edit, none_edit, fits_kind};
 
@@ -26,7 +26,7 @@ fn dash(c: u32) -> bool
 }
 
 fn number_or_dash(c: u32) -> bool
-    ensures { result ≡ field_ok numberOrDash c }
+    ensures { result ≡ field_ok number_or_dash c }
 {
     (c < Number::LIMIT) | (c == Word::DASH)
 }
@@ -85,7 +85,7 @@ fn slots(cs: &[u32]) -> bool
 }
 
 fn value(cs: &[u32]) -> bool
-    ensures { result ≡ fits (number ▸ numberOrDash ▸ end) cs.now }
+    ensures { result ≡ fits (number ▸ number_or_dash ▸ end) cs.now }
 {
     if cs.len() == 2 {
         number(cs[0]) & number_or_dash(cs[1])
@@ -95,7 +95,7 @@ fn value(cs: &[u32]) -> bool
 }
 
 fn block(cs: &[u32]) -> bool
-    ensures { result ≡ fits (number ▸ number ▸ numberOrDash ▸ flag ▸ end) cs.now }
+    ensures { result ≡ fits (number ▸ number ▸ number_or_dash ▸ flag ▸ end) cs.now }
 {
     if cs.len() == 4 {
         number(cs[0]) & number(cs[1]) & number_or_dash(cs[2]) & flag(cs[3])
