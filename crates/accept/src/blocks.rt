@@ -22,14 +22,14 @@ use table::rows::{Kind, count, first};
 use table::view::{idom, inst_count, is_entry};
 
 // What checks say: nothing, or the first refusal.
-#[derive(Drop)]
+#[derive(Clone, Copy)]
 pub enum Checked {
     Accepted,
     Refused(Refusal),
 }
 
 // The rules that a block keeps or breaks by itself: it has instructions; 9; 10; 11.
-#[derive(Drop)]
+#[derive(Clone, Copy)]
 enum Rule {
     Filled,
     NamedBack,

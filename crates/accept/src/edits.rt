@@ -80,7 +80,7 @@ fn some_emergency(t: &[u32]) -> bool
 }
 
 // The emergency spill that is not yet closed, or that the pairs are broken.
-#[derive(Drop)]
+#[derive(Clone, Copy)]
 pub enum Open {
     None,
     Spill(SpillSlot, PhysReg),

@@ -4,13 +4,13 @@ ghost use Rattle.std.specs.Prelude.{◌≡◌, false, ◌&&◌, ◌||◌, not, e
 ghost use Rattle.laws.specs.First.{first};
 ghost use Rattle.bits.specs.Sets.{has, set_of, set_limit, Members, OnlySet};
 
-#[derive(Drop)]
+#[derive(Clone, Copy)]
 pub enum Found {
     At(u32),
     Nothing,
 }
 
-#[derive(Drop)]
+#[derive(Clone, Copy)]
 pub struct NumberSet {
     pub words: [u64; NumberSet::WORDS],
 }

@@ -26,7 +26,7 @@ use table::index::op_rows;
 use table::view::{Operand, clobbers, group_regs, group_values, operand_at, units};
 
 // Which definitions a pass over the operands takes.
-#[derive(Drop)]
+#[derive(Clone, Copy)]
 pub enum Pass {
     Early,
     Other,

@@ -39,7 +39,7 @@ use table::rows::{Kind, count, row_of};
 // The most bytes of a sheet.
 const BYTES: usize = SheetByte::LIMIT as usize;
 
-#[derive(Drop)]
+#[derive(Clone, Copy)]
 pub enum Outcome {
     Refused(Refusal),
     Written(usize),

@@ -1,12 +1,12 @@
 // The cells of a row's fields: a number is itself, below `Number::LIMIT`; what has a mark is the mark and its number; a word is `Mark::WORD` and its
 // place among document 01's words. Which cell a field's bytes are is left to the crates above.
-#[derive(Drop)]
+#[derive(Clone, Copy)]
 pub struct Number(pub u32);
 
-#[derive(Drop)]
+#[derive(Clone, Copy)]
 pub struct Mark(pub u32);
 
-#[derive(Drop)]
+#[derive(Clone, Copy)]
 pub struct Word(pub u32);
 
 impl Number {

@@ -5,7 +5,7 @@ ghost use Rattle.entity.specs.Forms.{level_of, level_number, told_of, sum_of};
 
 use crate::numbers::{OperandIndex, PhysReg, RegClass, SpillSlot, Value, ValueGroup};
 
-#[derive(Drop)]
+#[derive(Clone, Copy)]
 pub enum Place {
     Reg(PhysReg),
     Slot(SpillSlot),
@@ -25,14 +25,14 @@ impl Place {
     }
 }
 
-#[derive(Drop)]
+#[derive(Clone, Copy)]
 pub enum Constraint {
     Class(RegClass),
     Fixed(PhysReg),
     Reuse(OperandIndex),
 }
 
-#[derive(Drop)]
+#[derive(Clone, Copy)]
 pub enum OperandKind {
     Def(Value),
     Use(Value),
@@ -44,7 +44,7 @@ pub enum OperandKind {
 }
 
 // `Misplaced` is an emergency edit whose places are not the register and the slot that it needs: refusal 6.
-#[derive(Drop)]
+#[derive(Clone, Copy)]
 pub enum Edit {
     Move {
         to: Place,
@@ -70,7 +70,7 @@ pub enum Edit {
     Nothing,
 }
 
-#[derive(Drop)]
+#[derive(Clone, Copy)]
 pub enum Level {
     Off,
     Local,
@@ -78,7 +78,7 @@ pub enum Level {
     Global,
 }
 
-#[derive(Drop)]
+#[derive(Clone, Copy)]
 pub enum FoundLevel {
     At(Level),
     Nothing,
@@ -119,7 +119,7 @@ impl Level {
 
 // What is wrong with a sheet or a call. A rule of one block has the `block` row of the lowest block that breaks it, counted from 1 over all rows of the
 // sheet: a sheet of 65,536 bytes has at most 21,845.
-#[derive(Drop)]
+#[derive(Clone, Copy)]
 pub enum Refusal {
     Rows,
     Limits,
@@ -137,7 +137,7 @@ pub enum Refusal {
 }
 
 // A refusal as it is told: its number and the row, 0 where no block is concerned.
-#[derive(Drop)]
+#[derive(Clone, Copy)]
 pub struct Told {
     pub number: u8,
     pub row: u16,

@@ -2,46 +2,46 @@
 ghost use Rattle.std.specs.Prelude.{◌≡◌};
 ghost use Rattle.entity.specs.Limits.{slot_limit, reg_limit, unit_limit, class_limit, group_limit, value_limit, value_group_limit, block_limit, inst_limit, operand_limit, edit_limit, reuse_limit, byte_limit};
 
-#[derive(Drop)]
+#[derive(Clone, Copy)]
 pub struct SpillSlot(pub u32);
 
-#[derive(Drop)]
+#[derive(Clone, Copy)]
 pub struct PhysReg(pub u32);
 
-#[derive(Drop)]
+#[derive(Clone, Copy)]
 pub struct RegUnit(pub u32);
 
-#[derive(Drop)]
+#[derive(Clone, Copy)]
 pub struct RegClass(pub u32);
 
-#[derive(Drop)]
+#[derive(Clone, Copy)]
 pub struct RegGroup(pub u32);
 
-#[derive(Drop)]
+#[derive(Clone, Copy)]
 pub struct Value(pub u32);
 
-#[derive(Drop)]
+#[derive(Clone, Copy)]
 pub struct ValueGroup(pub u32);
 
-#[derive(Drop)]
+#[derive(Clone, Copy)]
 pub struct Block(pub u32);
 
-#[derive(Drop)]
+#[derive(Clone, Copy)]
 pub struct Inst(pub u32);
 
-#[derive(Drop)]
+#[derive(Clone, Copy)]
 pub struct ParamRow(pub u32);
 
-#[derive(Drop)]
+#[derive(Clone, Copy)]
 pub struct OperandRow(pub u32);
 
-#[derive(Drop)]
+#[derive(Clone, Copy)]
 pub struct EditRow(pub u32);
 // The place of an operand within its instruction.
-#[derive(Drop)]
+#[derive(Clone, Copy)]
 pub struct OperandIndex(pub u32);
 // The place of a byte within a sheet.
-#[derive(Drop)]
+#[derive(Clone, Copy)]
 pub struct SheetByte(pub u32);
 
 impl SpillSlot {

@@ -6,10 +6,10 @@ ghost use Rattle.bits.specs.Sets.{has, set_of, set_limit};
 use crate::numbers::{Block, PhysReg, RegUnit, SpillSlot};
 use bits::sets::{Found, NumberSet};
 
-#[derive(Drop)]
+#[derive(Clone, Copy)]
 pub struct PhysRegSet(pub NumberSet);
 
-#[derive(Drop)]
+#[derive(Clone, Copy)]
 pub enum FoundReg {
     At(PhysReg),
     Nothing,
@@ -65,7 +65,7 @@ impl PhysRegSet {
     }
 }
 
-#[derive(Drop)]
+#[derive(Clone, Copy)]
 pub struct UnitSet(pub NumberSet);
 
 impl UnitSet {
@@ -90,7 +90,7 @@ impl UnitSet {
     }
 }
 
-#[derive(Drop)]
+#[derive(Clone, Copy)]
 pub struct SlotSet(pub NumberSet);
 
 impl SlotSet {
@@ -129,10 +129,10 @@ impl SlotSet {
     }
 }
 
-#[derive(Drop)]
+#[derive(Clone, Copy)]
 pub struct BlockSet(pub NumberSet);
 
-#[derive(Drop)]
+#[derive(Clone, Copy)]
 pub enum FoundBlock {
     At(Block),
     Nothing,

@@ -32,7 +32,7 @@ use table::edits::place_cell;
 use table::index::{Range, op_rows};
 
 // What is told of an instruction's operands in one pass: which are reused, whether one is an early definition, and whether one is a `use` in memory.
-#[derive(Drop)]
+#[derive(Clone, Copy)]
 struct Told {
     reused: NumberSet,
     early: bool,

@@ -17,7 +17,7 @@ use table::index::{Range, pred_rows, succ_rows};
 use table::rows::{Kind, part, start};
 use table::view::idom;
 
-#[derive(Drop)]
+#[derive(Clone, Copy)]
 pub enum Direction {
     Successors,
     Predecessors,

@@ -16,7 +16,7 @@ pub const ROWS: usize = EditRow::LIMIT as usize;
 const PAGE: usize = 64;
 
 // The four numbers of an edit.
-#[derive(Drop)]
+#[derive(Clone, Copy)]
 pub struct EditRecord {
     pub kind: u32,
     pub to: u32,

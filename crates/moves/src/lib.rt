@@ -27,14 +27,14 @@ use table::edits::{read_edit, store_edit};
 use table::index::edit_rows;
 
 // Where a move comes from; a remat comes from nowhere.
-#[derive(Drop)]
+#[derive(Clone, Copy)]
 pub enum Source {
     At(Place),
     Nothing,
 }
 
 // What a move or remat meets: where it goes, where it comes from, and its value.
-#[derive(Drop)]
+#[derive(Clone, Copy)]
 pub struct Arrival {
     pub to: Place,
     pub from: Source,
@@ -42,7 +42,7 @@ pub struct Arrival {
 }
 
 // What becomes of it.
-#[derive(Drop)]
+#[derive(Clone, Copy)]
 pub enum Fate {
     Kept,
     Removed(Count),
@@ -249,7 +249,7 @@ fn optimise_edit(
 }
 
 // The record of a walk as one value.
-#[derive(Drop)]
+#[derive(Clone, Copy)]
 pub struct WalkRecord {
     pub cells: [u32; LENGTH],
 }

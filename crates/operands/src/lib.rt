@@ -15,13 +15,13 @@ use table::index::op_rows;
 use table::rows::{Kind, count, row_of};
 use table::view::{Operand, constraint_of, kind_of, operand_at, place_of};
 
-#[derive(Drop)]
+#[derive(Clone, Copy)]
 pub enum FoundOperand {
     At(Operand),
     Nothing,
 }
 
-#[derive(Drop)]
+#[derive(Clone, Copy)]
 pub enum FoundClass {
     At(RegClass),
     Nothing,

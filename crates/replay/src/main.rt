@@ -5,7 +5,7 @@ use drifthurdle::{Outcome, clean};
 use entity::forms::Refusal;
 
 // A number, and where what follows it begins.
-#[derive(Drop)]
+#[derive(Clone, Copy)]
 pub struct Parsed {
     pub value: u64,
     pub next: usize,

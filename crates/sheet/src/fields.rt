@@ -7,18 +7,18 @@ ghost use Rattle.sheet.specs.Answers.{as_num, lead};
 use bits::tables::read_u8;
 use entity::cells::Word;
 
-#[derive(Drop)]
+#[derive(Clone, Copy)]
 pub enum Num {
     Is(u32),
     Nothing,
 }
 
 // The number of some digits, and how many they are.
-#[derive(Drop)]
+#[derive(Clone, Copy)]
 pub struct Decimal(pub u32, pub usize);
 
 // Some bytes as one number that no other bytes have, and how many they are.
-#[derive(Drop)]
+#[derive(Clone, Copy)]
 pub struct Pack(pub u64, pub usize);
 
 pub fn is_digit(b: u8) -> bool

@@ -14,7 +14,7 @@ use entity::cells::Number;
 use table::CELLS;
 
 // A field's cell and where the field ends: at a comma, or at CR LF.
-#[derive(Drop)]
+#[derive(Clone, Copy)]
 pub enum Piece {
     More(u32, usize),
     Last(u32, usize),
@@ -22,7 +22,7 @@ pub enum Piece {
 }
 
 // How many rows.
-#[derive(Drop)]
+#[derive(Clone, Copy)]
 pub enum Lexed {
     Rows(u32),
     Broken,

@@ -5,7 +5,7 @@ ghost use Rattle.rules.specs.Forward.{count};
 use bits::tables::{read_u32, store_u32};
 
 // A count's place in the count row.
-#[derive(Drop)]
+#[derive(Clone, Copy)]
 pub struct Count(pub usize);
 
 impl Count {

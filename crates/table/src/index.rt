@@ -59,7 +59,7 @@ pub fn room(bytes: usize) -> usize
 }
 
 // Numbers from `from` up to, and without, `to`.
-#[derive(Drop)]
+#[derive(Clone, Copy)]
 pub struct Range {
     pub from: u32,
     pub to: u32,

@@ -6,7 +6,7 @@ use crate::INDEX;
 use bits::tables::read_u32;
 
 // The thirteen kinds of row, in their order.
-#[derive(Drop)]
+#[derive(Clone, Copy)]
 pub struct Kind(pub u32);
 
 impl Kind {

@@ -18,7 +18,7 @@ use entity::numbers::{
 };
 use entity::sets::FoundBlock;
 
-#[derive(Drop)]
+#[derive(Clone, Copy)]
 pub enum FoundSlot {
     At(SpillSlot),
     Nothing,
@@ -162,7 +162,7 @@ pub fn kind_of(k: u32, v: u32) -> OperandKind
     }
 }
 
-#[derive(Drop)]
+#[derive(Clone, Copy)]
 pub struct Param {
     pub at: Block,
     pub value: Value,
@@ -180,7 +180,7 @@ pub fn param_at(t: &[u32], n: ParamRow) -> Param
     }
 }
 
-#[derive(Drop)]
+#[derive(Clone, Copy)]
 pub struct Operand {
     pub at: Inst,
     pub kind: OperandKind,

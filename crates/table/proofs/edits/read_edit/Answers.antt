@@ -1,0 +1,7 @@
+use Rattle.table.specs.Edits.{edit_in}
+use borrow.Author.Rules.{rules}
+use Rattle.table.proofs.edits.read_edit.Goals as goal
+
+pub returns : goal.returns
+unfolding edit_in
+returns c = cc

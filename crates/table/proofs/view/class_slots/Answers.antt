@@ -1,0 +1,9 @@
+use mathlib.Core.Path.{◌∙◌, ap}
+use Rattle.rules.specs.Sheet.{field, flag_of}
+use Rattle.table.proofs.Views.{slots_flag}
+use borrow.Author.Rules.{rules}
+use Rattle.table.proofs.view.class_slots.Goals as goal
+
+pub returns : goal.returns
+unfolding flag_of
+returns c = ap flag_of (c.read_u32.ensures ∙ ap (field 2) c.row_of.ensures) ∙ slots_flag _ _

@@ -1,0 +1,6 @@
+use borrow.Author.Rules.{rules}
+use Rattle.table.proofs.Lookups.{clobbers_by}
+use Rattle.table.proofs.view.clobbers.Goals as goal
+
+pub returns : goal.returns
+returns c = clobbers_by _ _ _ _ c.clob_rows.ensures c.list.ensures

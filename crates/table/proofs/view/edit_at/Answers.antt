@@ -1,0 +1,8 @@
+use mathlib.Core.Path.{◌∙◌, ap}
+use Rattle.rules.specs.Sheet.{field}
+use Rattle.table.proofs.Views.{edit_at_is}
+use borrow.Author.Rules.{rules}
+use Rattle.table.proofs.view.edit_at.Goals as goal
+
+pub returns : goal.returns
+returns c = c.read_u32.ensures ∙ ap (field 1) c.row_of.ensures ∙ edit_at_is _ _

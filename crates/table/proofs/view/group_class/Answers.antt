@@ -1,0 +1,8 @@
+use mathlib.Core.Path.{◌∙◌, ap}
+use Rattle.rules.specs.Sheet.{field}
+use Rattle.table.proofs.Views.{class_is}
+use borrow.Author.Rules.{rules}
+use Rattle.table.proofs.view.group_class.Goals as goal
+
+pub returns : goal.returns
+returns c = c.read_u32.ensures ∙ ap (field 2) c.row_of.ensures ∙ class_is _ _

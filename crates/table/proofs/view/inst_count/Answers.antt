@@ -1,0 +1,8 @@
+use mathlib.Core.Path.{◌∙◌, ap}
+use Rattle.rules.specs.Sheet.{field}
+use Rattle.table.proofs.Views.{instructions_are}
+use borrow.Author.Rules.{rules}
+use Rattle.table.proofs.view.inst_count.Goals as goal
+
+pub returns : goal.returns
+returns c = c.read_u32.ensures ∙ ap (field 2) c.row_of.ensures ∙ instructions_are _ _
