@@ -1,0 +1,6 @@
+use Rattle.graph.proofs.Stretches.{neighbours_by}
+use borrow.Author.Rules.{rules}
+use Rattle.graph.proofs.neighbours_of.Goals as goal
+
+pub returns : goal.returns
+returns c = neighbours_by _ _ _ _ _ _ _ c.stretch-succs.ensures c.stretch-preds.ensures c.neighbours_at.ensures c.neighbours.ensures

@@ -1,0 +1,6 @@
+use Rattle.operands.proofs.Fields.{constraint_is}
+use borrow.Author.Rules.{rules}
+use Rattle.operands.proofs.constraint_at.Goals as goal
+
+pub returns : goal.returns
+returns c = constraint_is _ _ c.row_of.ensures c.read_u32.ensures c.constraint_of.ensures

@@ -1,0 +1,10 @@
+use Prim.Native.Nat.{◌-◌}
+use Rattle.operands.proofs.Heading.{Left, head_start, head_found, head_next, head_none}
+use borrow.Author.Rules.{rules}
+use Rattle.operands.proofs.group_headed.Given as goal
+
+abbrev pub invariant-loop-g : goal.invariant-loop-g
+invariant-loop-g l = Left l.t l.c.0 l.r.0 l.g
+
+abbrev pub decreases-loop-g : goal.decreases-loop-g
+decreases-loop-g l = l.groups - l.g

@@ -1,0 +1,6 @@
+use Rattle.operands.proofs.Fields.{place_is}
+use borrow.Author.Rules.{rules}
+use Rattle.operands.proofs.place_at.Goals as goal
+
+pub returns : goal.returns
+returns c = place_is _ _ c.row_of.ensures c.read_u32.ensures c.place_of.ensures

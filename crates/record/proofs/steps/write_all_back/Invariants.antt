@@ -1,0 +1,15 @@
+use Prim.Native.Nat.{◌≤◌, ◌-◌}
+use native.Mathlib.Omega.{arith}
+use lib.ListN.{length}
+use borrow.Author.Rules.{rules}
+use Rattle.record.specs.Flat.{Long}
+use Rattle.rules.specs.Record.{write_back}
+use Rattle.rules.specs.Sheet.{Sheet}
+use Rattle.record.proofs.Changes.{Going, going_none, going_next, going_end}
+use Rattle.record.proofs.steps.write_all_back.Given as goal
+
+abbrev pub invariant-loop-k : goal.invariant-loop-k
+invariant-loop-k l = (l.k ≤ length l.us) × (Long l.initial.rec → (sh : Sheet) → Going (write_back sh) l.us l.initial.rec l.rec l.k)
+
+abbrev pub decreases-loop-k : goal.decreases-loop-k
+decreases-loop-k l = length l.us - l.k

@@ -1,0 +1,18 @@
+use borrow.Author.Tests.{not-true, not-false}
+use mathlib.Core.Path.{◌≡◌, refl, sym, ◌∙◌, ap}
+use mathlib.Core.Bool.{true}
+use Prim.Native.Nat.{◌≤◌, ◌<◌, ◌+◌, ◌-◌, ◌^◌}
+use native.Mathlib.Omega.{arith}
+use lib.ListN.{length, drop}
+use borrow.Author.Rules.{rules}
+use Rattle.rules.specs.Cells.{is_digit, decimal}
+use Rattle.sheet.specs.Answers.{lead}
+use Rattle.sheet.proofs.Pieces.{lead_more, lead_stop, lead_done}
+use Rattle.sheet.proofs.Numbers.{digit_is, room, grown}
+use Rattle.sheet.proofs.fields.digits.Given as goal
+
+abbrev pub invariant-loop-k : goal.invariant-loop-k
+invariant-loop-k l = (l.k ≤ 5) × (decimal 0 (lead is_digit 5 l.t) ≡ decimal l.v (lead is_digit (5 - l.k) (drop l.k l.t))) × (length (lead is_digit 5 l.t) ≡ l.k + length (lead is_digit (5 - l.k) (drop l.k l.t))) × (l.v < 10 ^ l.k)
+
+abbrev pub decreases-loop-k : goal.decreases-loop-k
+decreases-loop-k l = 5 - l.k
