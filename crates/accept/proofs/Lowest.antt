@@ -2,7 +2,7 @@
 use mathlib.Core.Path.{◌≡◌, refl, sym, ap, ◌∙◌}
 use mathlib.Core.Bool.{Bool, true, false, cond, not}
 use mathlib.Core.List.{List, [], ◌∷◌}
-use mathlib.Core.Option.{none, some}
+use mathlib.Core.Option.{some}
 use Prim.Native.Nat.{ℕ, zero, suc, ◌+◌, ◌-◌, ◌≤◌, ◌<◌}
 use native.Mathlib.Nat.{sub-zero, sub-eq-zero_of_le}
 use native.Mathlib.Numerals.{add-one}
@@ -29,7 +29,6 @@ use Rattle.rules.proofs.Refusals.{in_limits}
 use Rattle.table.proofs.Sheets.{blocks_counted}
 use Rattle.table.proofs.Sheets.{above_is}
 use Rattle.accept.specs.Blocks.{as_checked, keeps, lowest_of}
-use Rattle.accept.specs.declared.blocks.Checked.{Checked}
 use Rattle.accept.specs.declared.blocks.Checked.TheVariants.{Accepted, Refused}
 use Rattle.accept.specs.declared.blocks.Rule.TheVariants as Rule
 

@@ -28,9 +28,7 @@ use Rattle.operands.specs.Operands.{as_row, operand_found, class_found}
 use Rattle.operands.proofs.Finding.{op_lost, op_found, class_lost, class_found_lem}
 use Rattle.accept.specs.Operands.{is_class, reuses, operand_holds}
 use Rattle.operands.specs.declared.FoundOperand.{FoundOperand}
-use Rattle.operands.specs.declared.FoundOperand.TheVariants as FoundOperand
 use Rattle.operands.specs.declared.FoundClass.{FoundClass}
-use Rattle.operands.specs.declared.FoundClass.TheVariants as FoundClass
 
 -- ---- operand k of an instruction
 

@@ -42,7 +42,6 @@ use Rattle.table.proofs.Loops.{and_left, and_right, and_both, never, all_at, all
 use Rattle.table.proofs.Sheets.{long_of, edits_are, values_are, regs_are, edit_row_of}
 use Rattle.table.proofs.Beginnings.{from_at}
 use Rattle.table.specs.declared.view.FoundSlot.{FoundSlot}
-use Rattle.table.specs.declared.view.FoundSlot.TheVariants as FoundSlot
 use Rattle.names.proofs.Sets.{below, all_more, any_set_of}
 use Rattle.table.proofs.Stored.{sheet_edit_is}
 use Rattle.table.proofs.Lookups.{insts_are, edits_fall_in}

@@ -184,6 +184,7 @@ holds false e = never e
 
 held : (b : Bool) → T b → b ≡ true
 held true x = refl
+held false x = elim x [ ]
 
 keep_all : {A : Type 0} (l : List A) → keep (λ x. true) l ≡ l
 unfolding keep

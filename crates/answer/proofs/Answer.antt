@@ -1,16 +1,14 @@
 -- For `render` of src/rows.rt: what is written is the answer (`output` of rules/specs/Answer.antt), and how long that is. Assumes nothing.
 use mathlib.Core.Path.{◌≡◌, refl, sym, ap, ap₂, ◌∙◌}
 use mathlib.Core.List.{List, [], ◌∷◌, map, flat_map, zip, map-map}
-use Prim.Native.Nat.{ℕ, ◌-◌, ◌≤◌, ◌<◌}
+use Prim.Native.Nat.{ℕ, ◌≤◌, ◌<◌}
 use native.Mathlib.Nat.{zero-add}
 use native.Mathlib.Omega.{arith}
 use lib.ListN.{length, get_or, take}
 use lib.Seq.{ext_get_or, length-take-le, get_or-take}
 use Rattle.laws.specs.Lists.{from}
 use Rattle.laws.proofs.Lists.{flat_map_lem}
-use Rattle.entity.specs.Limits.{inst_limit}
 use Rattle.entity.specs.declared.forms.Edit.{Edit}
-use Rattle.entity.specs.declared.forms.Edit.TheVariants.{Nothing}
 use Rattle.rules.specs.Text.{bytes}
 use Rattle.rules.specs.Cells.{digits_of, field_of, words, word, find}
 use Rattle.rules.specs.Rows.{line_of, row_text}
@@ -20,10 +18,8 @@ use Rattle.rules.specs.Answer.{edit_text, count_text, output}
 use Rattle.table.specs.Rows.{count_in, kind_row}
 use Rattle.table.specs.Sheet.{rows_at, sheet_in}
 use Rattle.table.specs.Index.{Ready}
-use Rattle.table.specs.View.{edit_row}
 use Rattle.table.specs.Edits.{edit_in, edits_in}
-use Rattle.table.proofs.Sheets.{edit_row_of, edits_are, long_of, part_of, rows_at_lem, rows_long, members_long, members_at}
-use Rattle.table.proofs.Lookups.{edits_below}
+use Rattle.table.proofs.Sheets.{edit_row_of, edits_are, long_of, members_long, members_at}
 use Rattle.answer.specs.Text.{over, Laid}
 use Rattle.answer.specs.Rows.{edit_at, count_line, rendered, answer_most, Stands}
 use Rattle.table.specs.Written.{EditCells}

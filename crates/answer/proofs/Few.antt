@@ -10,7 +10,7 @@ use lib.Dec.{eqb}
 use lib.ListN.{length, get_or, length-append}
 use Rattle.laws.specs.Lists.{from}
 use Rattle.laws.proofs.Cases.{by_lt}
-use Rattle.entity.specs.Limits.{inst_limit, operand_limit, edit_limit}
+use Rattle.entity.specs.Limits.{inst_limit}
 use Rattle.entity.specs.declared.forms.Place.{Place}
 use Rattle.entity.specs.declared.forms.Place.TheVariants.{Reg, Slot}
 use Rattle.entity.specs.declared.forms.Edit.{Edit}
@@ -30,7 +30,7 @@ use Rattle.table.specs.Sheet.{sheet_in}
 use Rattle.table.specs.Index.{Ready, range_in}
 use Rattle.table.specs.View.{edit_row}
 use Rattle.table.specs.Edits.{edit_in, SmallPlace, SmallEdit}
-use Rattle.table.specs.Written.{four_in, SmallValue, EditCells, PlaceCell}
+use Rattle.table.specs.Written.{four_in, SmallValue, PlaceCell}
 use Rattle.table.proofs.Sheets.{edits_are, long_of, ops_are, part_of, rows_at_lem, rows_long}
 use Rattle.table.proofs.Lookups.{ops_below, edits_below}
 use Rattle.answer.specs.Text.{word_text, cell_text}

@@ -1,9 +1,8 @@
 -- Laws of sets by their members (specs/Sets.antt). Assumes nothing.
-use mathlib.Core.Path.{◌≡◌, refl, sym, ap, ◌∙◌}
+use mathlib.Core.Path.{◌≡◌, ap, ◌∙◌}
 use mathlib.Core.Bool.{Bool, false}
 use Prim.Native.Nat.{ℕ, ◌<◌, ◌≤◌}
 use native.Mathlib.Omega.{arith}
-use Rattle.laws.specs.Digits.{words_of}
 use Rattle.laws.proofs.Words.{has_words_of, has_out, is_words_of, of_words}
 use Rattle.bits.specs.declared.sets.NumberSet.{NumberSet}
 use Rattle.bits.specs.Sets.{made, has, set_of, set_limit, IsSet, Members, OnlySet}

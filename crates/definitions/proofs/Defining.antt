@@ -24,7 +24,6 @@ use Rattle.table.specs.View.{operand_of}
 use Rattle.table.specs.declared.view.Operand.{Operand}
 use Rattle.operands.specs.Operands.{as_row, class_found}
 use Rattle.operands.specs.declared.FoundClass.{FoundClass}
-use Rattle.operands.specs.declared.FoundClass.TheVariants as FoundClass
 use Rattle.operands.proofs.Finding.{class_lost, class_found_lem}
 use Rattle.record.specs.Flat.{record_in, Long, Becomes}
 use Rattle.record.proofs.Changes.{becomes_same, becomes_as}

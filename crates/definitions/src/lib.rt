@@ -1,4 +1,6 @@
 // What an instruction's operands define, and what it clobbers: the rules of `rules/specs/Forward.antt`.
+#![tactic(auto)]
+
 ghost use Rattle.std.specs.Prelude.{◌≡◌, not};
 ghost use mathlib.Core.List.{flat_map, zip_with};
 ghost use Rattle.std.proofs.Math.Option.{get_or};

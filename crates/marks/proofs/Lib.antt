@@ -1,3 +1,1 @@
 pub mod Marking
-mod Row
-mod Again

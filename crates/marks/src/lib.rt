@@ -1,5 +1,7 @@
 // The marked edits are struck in a lent list of edit records, the form that document 01 asks of the sweep. Which edits are marked is the sweep's matter;
 // here the cells of the edits become lists of up to 64 records, a list is lent to the function that strikes what is marked, and its records go back to the cells.
+#![tactic(auto)]
+
 ghost use Rattle.std.specs.Prelude.{◌≡◌, ◌≤◌, length, take, drop};
 ghost use Rattle.entity.specs.Limits.{edit_limit};
 ghost use Rattle.marks.specs.Marks.{page_rows, none_record, struck_at, struck_by, record_in, Lists, with_record, with_records, applied, applied_from};

@@ -3,14 +3,13 @@ use mathlib.Core.Path.{◌≡◌, refl, sym, ◌∙◌, ap}
 use mathlib.Core.Bool.{Bool, true, false, ◌&&◌}
 use mathlib.Core.List.{List, [], ◌∷◌, ◌++◌}
 use Prim.Native.Nat.{ℕ, zero, suc, ◌+◌, ◌-◌, ◌<◌, ◌≤◌}
-use native.Mathlib.Nat.{add-zero}
 use native.Mathlib.Numerals.{add-one}
 use native.Mathlib.Omega.{arith}
 use lib.ListN.{length, get_or, take, drop, set}
 use lib.Seq.{take-suc, take_all}
 use lib.Dec.{ltb, eqb}
 use borrow.Author.Tests.{lt-ltb, le-ltb, ltb-true, ltb-false}
-use Rattle.laws.specs.Lists.{all, keep, from}
+use Rattle.laws.specs.Lists.{all}
 use Rattle.laws.proofs.Cases.{by_eq, and_parts}
 use Rattle.rules.specs.Words.{slots_word}
 use Rattle.rules.specs.Rows.{kind, row_ok, pair_ok, pairs_ok, sheet_ok}

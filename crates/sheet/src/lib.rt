@@ -1,5 +1,7 @@
 // Refusal 1 of document 01: a sheet's bytes into the table's cells, starts and KIND, or false where the sheet is over 65,536 bytes
 // or its rows are broken. Limits, names and the later refusals are left to the crates above, and so are the other entries of INDEX.
+#![tactic(auto)]
+
 ghost use Rattle.std.specs.Prelude.{◌≡◌, ◌&&◌, List, ℕ, ◌≤◌, leb, length};
 ghost use Rattle.std.proofs.Math.Option.{some};
 ghost use Rattle.rules.specs.Rows.{rows_of};

@@ -1,6 +1,5 @@
 use mathlib.Core.Path.{sym}
 use lib.Seq.{set_out}
-use borrow.Author.Rules.{rules}
 use Rattle.bits.proofs.tables.store_u32.Goals as goal
 
 pub returns-else-i-cells : goal.returns-else-i-cells

@@ -1,6 +1,5 @@
 use mathlib.Core.Path.{sym}
 use lib.Seq.{set_out}
-use borrow.Author.Rules.{rules}
 use Rattle.bits.proofs.tables.store_u8.Goals as goal
 
 pub returns-else-i-bytes : goal.returns-else-i-bytes

@@ -1,14 +1,8 @@
-use borrow.Author.Tests.{not-true, not-false}
-use mathlib.Core.Path.{◌≡◌, refl, sym, ◌∙◌, ap}
-use mathlib.Core.Bool.{true}
+use mathlib.Core.Path.{◌≡◌}
 use Prim.Native.Nat.{◌≤◌, ◌<◌, ◌+◌, ◌-◌, ◌^◌}
-use native.Mathlib.Omega.{arith}
 use lib.ListN.{length, drop}
-use borrow.Author.Rules.{rules}
 use Rattle.rules.specs.Cells.{is_digit, decimal}
 use Rattle.sheet.specs.Answers.{lead}
-use Rattle.sheet.proofs.Pieces.{lead_more, lead_stop, lead_done}
-use Rattle.sheet.proofs.Numbers.{digit_is, room, grown}
 use Rattle.sheet.proofs.fields.digits.Given as goal
 
 abbrev pub invariant-loop-k : goal.invariant-loop-k

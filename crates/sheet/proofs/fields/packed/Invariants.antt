@@ -1,15 +1,9 @@
-use borrow.Author.Tests.{le-ltb, lt-ltb}
-use mathlib.Core.Path.{◌≡◌, refl, sym, ◌∙◌, ap}
-use Prim.Native.Nat.{ℕ, ◌≤◌, ◌<◌, ◌+◌, ◌-◌, ◌*◌, ◌^◌}
-use native.Mathlib.Nat.{pow-le-pow_right}
-use native.Mathlib.Omega.{arith}
-use lib.ListN.{length, get_or, drop}
+use mathlib.Core.Path.{◌≡◌}
+use Prim.Native.Nat.{◌≤◌, ◌<◌, ◌+◌, ◌-◌, ◌*◌, ◌^◌}
+use lib.ListN.{length, drop}
 use lib.Dec.{ltb}
-use borrow.Author.Rules.{rules}
 use Rattle.sheet.specs.Answers.{lead}
 use Rattle.sheet.specs.Packing.{pack}
-use Rattle.sheet.proofs.Pieces.{lead_more, lead_stop, lead_done}
-use Rattle.sheet.proofs.Packing.{pack_more, pack_room, pack_grown}
 use Rattle.sheet.proofs.fields.packed.Given as goal
 
 abbrev pub invariant-loop-k : goal.invariant-loop-k

@@ -12,7 +12,7 @@ pub returns-in_default-2 : goal.returns-in_default-2
 returns-in_default-2 c = begins_not _ _ (λ a b. omega arith)
 
 pub returns-in-100001 : goal.returns-in-100001
-returns-in-100001 c = begins_once _ _ c.in-100001.in-100001-own.keys1
+returns-in-100001 c = begins_once _ _ (omega arith)
 
 pub returns-in-100001-2 : goal.returns-in-100001-2
 returns-in-100001-2 c = begins_anywhere _ _ (omega arith) (omega arith)

@@ -1,5 +1,4 @@
 use Rattle.sheet.proofs.Order.{follows_is}
-use borrow.Author.Rules.{rules}
 use Rattle.sheet.proofs.grammar.pair_ok.Goals as goal
 
 pub returns : goal.returns

@@ -1,7 +1,6 @@
 use mathlib.Core.Path.{◌∙◌, ap}
 use borrow.Author.Tests.{lt-ltb, le-ltb}
 use Rattle.rules.specs.Rows.{kind}
-use borrow.Author.Rules.{rules}
 use Rattle.sheet.proofs.kinds.earlier.Goals as goal
 
 pub returns-then-i-n : goal.returns-then-i-n

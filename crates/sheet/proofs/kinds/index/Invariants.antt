@@ -1,13 +1,9 @@
-use mathlib.Core.Path.{◌≡◌, refl, sym, ◌∙◌}
+use mathlib.Core.Path.{◌≡◌}
 use mathlib.Core.List.{List}
-use Prim.Native.Nat.{ℕ, ◌≤◌, ◌<◌, ◌+◌, ◌-◌}
-use Rattle.rules.specs.Words.{slots_word}
-use Rattle.rules.specs.Rows.{kind}
+use Prim.Native.Nat.{ℕ, ◌≤◌, ◌+◌, ◌-◌}
 use Rattle.table.specs.Table.{Holds, Rising}
-use Rattle.table.specs.Rows.{row_in}
-use Rattle.sheet.proofs.Beginnings.{Indexing, nothing_yet, row_more, kind_more, all_kinds, is_before, not_before}
-use native.Mathlib.Omega.{arith}
-use lib.ListN.{length, length-set}
+use Rattle.sheet.proofs.Beginnings.{Indexing}
+use lib.ListN.{length}
 use Rattle.sheet.proofs.kinds.index.Given as goal
 
 abbrev pub invariant-loop-k : goal.invariant-loop-k

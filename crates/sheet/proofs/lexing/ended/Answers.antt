@@ -2,7 +2,6 @@ use mathlib.Core.Bool.{and-false}
 use borrow.Author.Tests.{ne_eqb}
 use Rattle.sheet.specs.Answers.{ended}
 use Rattle.sheet.proofs.Pieces.{comma_is, crlf_is}
-use borrow.Author.Rules.{rules}
 use Rattle.sheet.proofs.lexing.ended.Goals as goal
 
 pub returns-then-b-eq44 : goal.returns-then-b-eq44
@@ -15,8 +14,8 @@ returns-then-b-ne13 c = rw (comma_is, crlf_is, ← c.read_u8-b.ensures, ne_eqb _
 
 pub returns-then-read_u8-eq10 : goal.returns-then-read_u8-eq10
 unfolding ended
-returns-then-read_u8-eq10 c = let b = c in rw (comma_is, crlf_is, ← b.before.before.read-u8.ensures, ← c.read_u8.ensures, b.if2.false, c.if-read_u8-eq10.true)
+returns-then-read_u8-eq10 c = rw (comma_is, crlf_is, ← c.read_u8-b.ensures, ← c.read_u8.ensures, c.if-b-ne13.false, c.if-read_u8-eq10.true)
 
 pub returns : goal.returns
 unfolding ended
-returns c = let b = c in rw (comma_is, crlf_is, ← b.before.before.read-u8.ensures, ← c.read_u8.ensures, ne_eqb _ 44 b.before.if1.false, ne_eqb _ 10 c.if-read_u8-eq10.false, and-false)
+returns c = rw (comma_is, crlf_is, ← c.read_u8-b.ensures, ← c.read_u8.ensures, ne_eqb _ 44 c.if-b-eq44.false, ne_eqb _ 10 c.if-read_u8-eq10.false, and-false)

@@ -1,5 +1,4 @@
 use Rattle.sheet.specs.Answers.{plain_head}
-use borrow.Author.Rules.{rules}
 use Rattle.sheet.proofs.lexing.plain.Goals as goal
 
 pub returns : goal.returns

@@ -1,9 +1,9 @@
+use native.Mathlib.Omega.{arith}
 use mathlib.Core.Path.{◌∙◌}
 use Rattle.rules.specs.Rows.{reading}
 use Rattle.sheet.proofs.Fitting.{two_or_more, three_or_more, flagged_two, flagged_three}
 use Rattle.sheet.specs.Grammar.{fits_kind}
 use Rattle.sheet.proofs.Order.{no_kind, fits_not}
-use borrow.Author.Rules.{rules}
 use Rattle.sheet.proofs.shapes.after.Goals as goal
 
 pub returns-in-100001 : goal.returns-in-100001
@@ -60,4 +60,4 @@ returns-in-100013 c = rw c.in-100013.is c.edit.ensures
 
 pub returns-in_default : goal.returns-in_default
 unfolding fits_kind reading
-returns-in_default c = let x = c.in_default.in_default-own.rest in let a = c.args in fits_not a.kind a.cs.now (no_kind a.kind x.0.0.0.0.0.0.0.0.0.0.0.0.1 x.0.0.0.0.0.0.0.0.0.0.0.1 x.0.0.0.0.0.0.0.0.0.0.1 x.0.0.0.0.0.0.0.0.0.1 x.0.0.0.0.0.0.0.0.1 x.0.0.0.0.0.0.0.1 x.0.0.0.0.0.0.1 x.0.0.0.0.0.1 x.0.0.0.0.1 x.0.0.0.1 x.0.0.1 x.0.1 x.1)
+returns-in_default c = fits_not c.args.kind c.args.cs.now (no_kind c.args.kind (λ e. omega arith) (λ e. omega arith) (λ e. omega arith) (λ e. omega arith) (λ e. omega arith) (λ e. omega arith) (λ e. omega arith) (λ e. omega arith) (λ e. omega arith) (λ e. omega arith) (λ e. omega arith) (λ e. omega arith) (λ e. omega arith))

@@ -1,7 +1,6 @@
 use native.Mathlib.Omega.{arith}
 use Rattle.rules.specs.Rows.{number, flag, number_or_dash}
 use Rattle.sheet.proofs.Fitting.{fits_4, not_4}
-use borrow.Author.Rules.{rules}
 use Rattle.sheet.proofs.shapes.block.Goals as goal
 
 pub returns-then-cs-eq4 : goal.returns-then-cs-eq4

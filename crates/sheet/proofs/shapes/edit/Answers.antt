@@ -2,7 +2,6 @@ use mathlib.Core.Path.{sym, ◌∙◌, ap}
 use native.Mathlib.Omega.{arith}
 use Rattle.rules.specs.Rows.{fits, edit_shape}
 use Rattle.sheet.proofs.Fitting.{elements_5, not_edit}
-use borrow.Author.Rules.{rules}
 use Rattle.sheet.proofs.shapes.edit.Goals as goal
 
 pub returns-then-cs-eq5 : goal.returns-then-cs-eq5

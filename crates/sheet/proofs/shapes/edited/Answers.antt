@@ -1,6 +1,5 @@
 use Rattle.rules.specs.Rows.{fits, edit_shape}
 use Rattle.sheet.specs.Grammar.{move_edit, remat_edit, pair_edit, none_edit}
-use borrow.Author.Rules.{rules}
 use Rattle.sheet.proofs.shapes.edited.Goals as goal
 
 pub returns : goal.returns

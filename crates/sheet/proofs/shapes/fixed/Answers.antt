@@ -3,7 +3,6 @@ use Rattle.rules.specs.Rows.{number, dash, place, constraint, field_ok, fits, re
 use lib.Dec.{eqb}
 use Rattle.sheet.proofs.Fitting.{chain_5}
 use Rattle.sheet.specs.Grammar.{fixed_op}
-use borrow.Author.Rules.{rules}
 use Rattle.sheet.proofs.shapes.fixed.Goals as goal
 
 pub returns : goal.returns

@@ -1,7 +1,6 @@
 use borrow.Author.Tests.{lt-leb}
 use native.Mathlib.Omega.{arith}
 use Rattle.sheet.proofs.Fitting.{flagged_is}
-use borrow.Author.Rules.{rules}
 use Rattle.sheet.proofs.shapes.flagged.Goals as goal
 
 pub returns-then-cs-n : goal.returns-then-cs-n

@@ -3,7 +3,6 @@ use Rattle.rules.specs.Rows.{number, place, field_ok, fits, reading}
 use lib.Dec.{eqb}
 use Rattle.sheet.proofs.Fitting.{chain_5}
 use Rattle.sheet.specs.Grammar.{move_edit}
-use borrow.Author.Rules.{rules}
 use Rattle.sheet.proofs.shapes.moved.Goals as goal
 
 pub returns : goal.returns

@@ -1,10 +1,8 @@
-use mathlib.Core.Path.{◌≡◌, refl, sym, ◌∙◌}
+use mathlib.Core.Path.{◌≡◌}
 use Prim.Native.Nat.{◌≤◌, ◌-◌}
-use native.Mathlib.Omega.{arith}
 use lib.ListN.{length, drop}
 use Rattle.laws.specs.Lists.{all}
 use Rattle.rules.specs.Rows.{field_ok, number}
-use Rattle.sheet.proofs.Fitting.{numbers_not, numbers_more, numbers_end}
 use Rattle.sheet.proofs.shapes.numbers.Given as goal
 
 abbrev pub invariant-loop-i : goal.invariant-loop-i

@@ -4,7 +4,6 @@ use lib.Dec.{leb}
 use mathlib.Core.Bool.{◌&&◌}
 use Rattle.sheet.proofs.Fitting.{chain_5}
 use Rattle.sheet.specs.Grammar.{pair_edit}
-use borrow.Author.Rules.{rules}
 use Rattle.sheet.proofs.shapes.pair.Goals as goal
 
 pub returns : goal.returns

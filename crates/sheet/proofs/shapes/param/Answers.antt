@@ -1,7 +1,6 @@
 use native.Mathlib.Omega.{arith}
 use Rattle.rules.specs.Rows.{number, place}
 use Rattle.sheet.proofs.Fitting.{fits_3, not_3}
-use borrow.Author.Rules.{rules}
 use Rattle.sheet.proofs.shapes.param.Goals as goal
 
 pub returns-then-cs-eq3 : goal.returns-then-cs-eq3

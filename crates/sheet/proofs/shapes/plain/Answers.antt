@@ -5,7 +5,6 @@ use lib.Dec.{leb}
 use mathlib.Core.Bool.{◌&&◌}
 use Rattle.sheet.proofs.Fitting.{chain_5}
 use Rattle.sheet.specs.Grammar.{plain_op}
-use borrow.Author.Rules.{rules}
 use Rattle.sheet.proofs.shapes.plain.Goals as goal
 
 pub returns : goal.returns

@@ -1,7 +1,6 @@
 use mathlib.Core.Path.{◌∙◌}
 use native.Mathlib.Omega.{arith}
 use Rattle.sheet.proofs.Fitting.{row_is, no_row}
-use borrow.Author.Rules.{rules}
 use Rattle.sheet.proofs.shapes.row_ok.Goals as goal
 
 pub returns-then-row-eq0 : goal.returns-then-row-eq0

@@ -2,7 +2,6 @@ use mathlib.Core.Path.{◌∙◌}
 use native.Mathlib.Omega.{arith}
 use Rattle.rules.specs.Rows.{number}
 use Rattle.sheet.proofs.Fitting.{fits_1, not_1}
-use borrow.Author.Rules.{rules}
 use Rattle.sheet.proofs.shapes.slots.Goals as goal
 
 pub returns-then-cs-eq1 : goal.returns-then-cs-eq1

@@ -1,7 +1,6 @@
 use native.Mathlib.Omega.{arith}
 use Rattle.rules.specs.Rows.{number, number_or_dash}
 use Rattle.sheet.proofs.Fitting.{fits_2, not_2}
-use borrow.Author.Rules.{rules}
 use Rattle.sheet.proofs.shapes.value.Goals as goal
 
 pub returns-then-cs-eq2 : goal.returns-then-cs-eq2

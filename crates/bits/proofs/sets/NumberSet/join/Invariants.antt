@@ -1,12 +1,7 @@
-use mathlib.Core.Path.{refl, ap, ◌∙◌}
 use Prim.Native.Nat.{◌-◌, ◌^◌}
-use native.Mathlib.Omega.{arith}
-use borrow.Author.Rules.{rules}
 use lib.Bits.{bit_or}
 use lib.ListN.{get_or}
-use Rattle.laws.proofs.Lists.{MapTo, map_none, map_store}
-use Rattle.laws.proofs.Words.{join_is, words}
-use Rattle.bits.specs.Sets.{made}
+use Rattle.laws.proofs.Lists.{MapTo}
 use Rattle.bits.proofs.sets.NumberSet.join.Given as goal
 
 abbrev pub invariant-loop-i : goal.invariant-loop-i

@@ -1,10 +1,6 @@
-use mathlib.Core.Path.{◌≡◌, sym}
+use mathlib.Core.Path.{◌≡◌}
 use mathlib.Core.Bool.{false}
 use Prim.Native.Nat.{ℕ, ◌<◌, ◌-◌, ◌*◌, ◌^◌}
-use native.Mathlib.Nat.{le_refl, le_of_lt}
-use native.Mathlib.Omega.{arith}
-use Rattle.laws.proofs.First.{first_at, first_none}
-use Rattle.laws.proofs.Words.{below_word, at_lowest}
 use Rattle.bits.specs.Sets.{has}
 use Rattle.bits.proofs.sets.NumberSet.lowest.Given as goal
 

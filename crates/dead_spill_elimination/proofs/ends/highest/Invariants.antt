@@ -1,0 +1,13 @@
+use mathlib.Core.Path.{◌≡◌, subst}
+use mathlib.Core.Logic.{⊎_elim}
+use Prim.Native.Nat.{ℕ, ◌-◌, ◌≤◌, ◌<◌}
+use native.Mathlib.Nat.{eq-or-lt_of_le}
+use native.Mathlib.Omega.{arith}
+use lib.ListN.{length, get_or}
+use Rattle.dead_spill_elimination.proofs.ends.highest.Given as goal
+
+abbrev pub invariant-loop-i : goal.invariant-loop-i
+invariant-loop-i l = (l.i ≤ length l.wait) × ((k : ℕ) → l.i ≤ k → k < length l.wait → get_or l.wait k 0 ≡ 0)
+
+abbrev pub decreases-loop-i : goal.decreases-loop-i
+decreases-loop-i l = l.i

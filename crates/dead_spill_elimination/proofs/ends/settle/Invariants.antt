@@ -1,0 +1,16 @@
+use mathlib.Core.Path.{◌≡◌, refl, sym, ◌∙◌}
+use Prim.Native.Nat.{ℕ, ◌-◌, ◌^◌, ◌<◌}
+use native.Mathlib.Omega.{arith}
+use borrow.Author.Rules.{rules}
+use lib.ListN.{length, get_or}
+use Rattle.rules.specs.Function.{Func}
+use Rattle.dead_spill_elimination.specs.Worklist.{Facts}
+use Rattle.dead_spill_elimination.proofs.Sums.{weight}
+use Rattle.dead_spill_elimination.proofs.Settling.{Good, Inv, good_turn, less_turn, inv_turn, inv_first, inv_last}
+use Rattle.dead_spill_elimination.proofs.ends.settle.Given as goal
+
+abbrev pub invariant-loop-h : goal.invariant-loop-h
+invariant-loop-h l = Good (length l.initial.wait) l.ends l.wait × ((f : Func) → Facts l.t l.edits l.touched f (length l.initial.wait) → Inv l.t l.edits l.touched (length l.initial.wait) f l.ends l.wait)
+
+abbrev pub decreases-loop-h : goal.decreases-loop-h
+decreases-loop-h l = weight (2 ^ 64) l.ends l.wait

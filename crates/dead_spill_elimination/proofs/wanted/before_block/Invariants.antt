@@ -1,0 +1,11 @@
+use native.Mathlib.Omega.{arith}
+use Rattle.dead_spill_elimination.specs.Slots.{step_back, Lows}
+use Rattle.dead_spill_elimination.proofs.Down.{Going, going_first, going_next}
+use Rattle.dead_spill_elimination.proofs.Blocks.{block_step, block_done}
+use Rattle.dead_spill_elimination.proofs.wanted.before_block.Given as goal
+
+abbrev pub invariant-loop-i : goal.invariant-loop-i
+invariant-loop-i l = Going (Lows l.t l.edits) (step_back l.t l.edits l.touched) l.insts l.initial.live.0 l.live.0 l.i
+
+abbrev pub decreases-loop-i : goal.decreases-loop-i
+decreases-loop-i l = l.i

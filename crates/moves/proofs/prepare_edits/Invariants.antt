@@ -1,0 +1,11 @@
+use Prim.Native.Nat.{◌≤◌, ◌-◌}
+use native.Mathlib.Omega.{arith}
+use borrow.Author.Rules.{rules}
+use Rattle.moves.proofs.Moving.{Prepared, effects_none, effects_next, effects_end}
+use Rattle.moves.proofs.prepare_edits.Given as goal
+
+abbrev pub invariant-loop-j : goal.invariant-loop-j
+invariant-loop-j l = (l.initial.j ≤ l.j) × (l.j - l.initial.j ≤ l.to - l.initial.j) × Prepared l.t l.edits l.initial.rec l.rec l.initial.j l.j
+
+abbrev pub decreases-loop-j : goal.decreases-loop-j
+decreases-loop-j l = l.to - l.j

@@ -1,0 +1,16 @@
+use mathlib.Core.Path.{◌≡◌, refl, sym, ap, ◌∙◌}
+use Prim.Native.Nat.{◌-◌}
+use lib.ListN.{length, drop}
+use Rattle.bits.specs.Sets.{has}
+use Rattle.laws.specs.Lists.{all}
+use Rattle.table.proofs.Loops.{all_false_in, all_next_in, all_end_in}
+use mathlib.Core.Bool.{not}
+use borrow.Author.Tests.{not-true, not-false}
+use borrow.Author.Rules.{rules}
+use Rattle.names.proofs.lists.all_in.Given as goal
+
+abbrev pub invariant-loop-i : goal.invariant-loop-i
+invariant-loop-i l = all (has l.s) (drop l.i l.list) ≡ all (has l.s) l.list
+
+abbrev pub decreases-loop-i : goal.decreases-loop-i
+decreases-loop-i l = length l.list - l.i

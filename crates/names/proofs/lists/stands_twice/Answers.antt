@@ -1,0 +1,20 @@
+use mathlib.Core.Path.{◌≡◌, sym, ◌∙◌}
+use Prim.Native.Nat.{◌-◌}
+use lib.ListN.{length, drop}
+use mathlib.Core.Bool.{true}
+use Rattle.laws.specs.Lists.{twice}
+use Rattle.names.proofs.Sets.{below, again, twice_start, twice_found, twice_next, twice_end}
+use borrow.Author.Rules.{rules}
+use Rattle.names.proofs.lists.stands_twice.Goals as goal
+
+pub loop-i-init : goal.loop-i-init
+loop-i-init c = λ e. twice_start _ e c.empty-seen.ensures
+
+pub returns-then-contains : goal.returns-then-contains
+returns-then-contains c = λ e. sym (twice_found _ _ _ c.loop-i-test.true (sym c.contains.ensures ∙ c.if-contains.true)) ∙ c.loop-i.invariant e
+
+pub loop-i-preserved : goal.loop-i-preserved
+loop-i-preserved c = λ e. twice_next _ _ _ e c.loop-i-test.true (sym c.contains.ensures ∙ c.if-contains.false) c.insert-seen.ensures ∙ c.loop-i.invariant e
+
+pub returns : goal.returns
+returns c = λ e. sym (twice_end _ _ _ c.loop-i-test.false) ∙ c.loop-i.invariant e

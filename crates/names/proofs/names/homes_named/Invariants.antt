@@ -1,0 +1,19 @@
+use mathlib.Core.Path.{◌≡◌, refl, sym, ◌∙◌}
+use Prim.Native.Nat.{◌-◌}
+use lib.ListN.{drop}
+use mathlib.Core.Bool.{true}
+use mathlib.Core.Option.{Option-elim}
+use borrow.Author.Tests.{not-true, not-false}
+use Rattle.laws.specs.Lists.{all}
+use Rattle.rules.specs.Accept.{slot_exists}
+use Rattle.table.specs.Sheet.{sheet_in}
+use Rattle.table.proofs.Sheets.{values_are}
+use Rattle.names.proofs.Rows.{rows_fail, rows_next, rows_end}
+use borrow.Author.Rules.{rules}
+use Rattle.names.proofs.names.homes_named.Given as goal
+
+abbrev pub invariant-loop-v : goal.invariant-loop-v
+invariant-loop-v l = all (λ h. Option-elim h true (slot_exists (sheet_in l.t))) (drop l.v (sheet_in l.t).values) ≡ all (λ h. Option-elim h true (slot_exists (sheet_in l.t))) (sheet_in l.t).values
+
+abbrev pub decreases-loop-v : goal.decreases-loop-v
+decreases-loop-v l = l.rows - l.v

@@ -1,0 +1,8 @@
+use mathlib.Core.Path.{sym, ◌∙◌}
+use Rattle.table.proofs.Sheets.{long_of, values_are}
+use Rattle.names.proofs.Rows.{list_below}
+use borrow.Author.Rules.{rules}
+use Rattle.names.proofs.names.vgroup_named.Goals as goal
+
+pub returns : goal.returns
+returns c = list_below c.all_below.ensures (c.count.ensures ∙ sym (long_of (values_are _))) c.group_values.ensures

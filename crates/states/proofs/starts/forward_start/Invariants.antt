@@ -1,0 +1,19 @@
+use mathlib.Core.Path.{◌≡◌, refl}
+use Prim.Native.Nat.{ℕ, ◌≤◌, ◌-◌}
+use native.Mathlib.Omega.{arith}
+use lib.ListN.{length}
+use Rattle.rules.specs.Sheet.{block_count}
+use Rattle.rules.specs.Forward.{begins_empty}
+use Rattle.table.specs.Sheet.{sheet_in}
+use Rattle.table.specs.Index.{Ready}
+use Rattle.table.proofs.Sheets.{blocks_are, long_of}
+use Rattle.states.specs.States.{Unset, Started}
+use Rattle.states.proofs.Starting.{start_none, forward_starts}
+use borrow.Author.Rules.{rules}
+use Rattle.states.proofs.starts.forward_start.Given as goal
+
+abbrev pub invariant-loop-b : goal.invariant-loop-b
+invariant-loop-b l = (l.b ≤ l.n) × (length l.states ≡ length l.initial.states) × (Ready l.t → (m : ℕ) → Unset m l.initial.states → Started (begins_empty (sheet_in l.t)) m l.states l.b)
+
+abbrev pub decreases-loop-b : goal.decreases-loop-b
+decreases-loop-b l = l.n - l.b

@@ -1,0 +1,18 @@
+use mathlib.Core.Path.{◌≡◌, refl}
+use Prim.Native.Nat.{ℕ, ◌≤◌, ◌-◌}
+use native.Mathlib.Omega.{arith}
+use lib.ListN.{length}
+use Rattle.rules.specs.Sheet.{block_count}
+use Rattle.rules.specs.Accept.{is_entry}
+use Rattle.table.specs.Sheet.{sheet_in}
+use Rattle.table.proofs.Sheets.{blocks_are, long_of}
+use Rattle.states.specs.States.{Unset, Started, Waits}
+use Rattle.states.proofs.Starting.{start_none, waits_none, global_starts}
+use borrow.Author.Rules.{rules}
+use Rattle.states.proofs.starts.global_start.Given as goal
+
+abbrev pub invariant-loop-b : goal.invariant-loop-b
+invariant-loop-b l = (l.b ≤ l.n) × (length l.states ≡ length l.initial.states) × ((m : ℕ) → Unset m l.initial.states → Started (is_entry (sheet_in l.t)) m l.states l.b) × Waits (is_entry (sheet_in l.t)) l.w.0 l.b
+
+abbrev pub decreases-loop-b : goal.decreases-loop-b
+decreases-loop-b l = l.n - l.b
