@@ -1,4 +1,6 @@
 // What acceptance gives, stated once for everything that works on accepted sheets. A theorem, and no code.
+#![tactic(auto)]
+
 ghost use Rattle.std.specs.Prelude.{◌≡◌};
 ghost use Rattle.std.proofs.Math.Option.{none};
 ghost use Rattle.rules.specs.Sheet.{Sheet};

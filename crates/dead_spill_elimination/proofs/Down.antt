@@ -3,9 +3,9 @@
 --     down-first, down_next       it begins at the end, and goes on
 --     back_first, back_next, back_all      `back` over the numbers that it has passed
 --     Going, going_first, going_next, going_done      a loop that keeps a set of slots
-use mathlib.Core.Path.{◌≡◌, refl, sym, ◌∙◌, ap}
+use mathlib.Core.Path.{◌≡◌, refl, ap}
 use mathlib.Core.Logic.{◌⊎◌, inl, inr, ⊎_elim}
-use mathlib.Core.List.{List, [], ◌∷◌}
+use mathlib.Core.List.{List, ◌∷◌}
 use Prim.Native.Nat.{ℕ, zero, suc, ◌+◌, ◌-◌, ◌<◌, ◌≤◌}
 use native.Mathlib.Omega.{arith}
 use Rattle.laws.specs.Lists.{from}

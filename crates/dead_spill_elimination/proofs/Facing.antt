@@ -1,17 +1,16 @@
 -- For `Facts` of specs/Worklist.antt, which the loop of src/ends.rt goes by: the worklist is that of the sheet's function: what is wanted at a block's start, and predecessors
 -- and successors. Assumes nothing.
 use mathlib.Core.Path.{◌≡◌, refl, sym, ◌∙◌, ap}
-use mathlib.Core.Logic.{◌⊎◌, inl, inr, ⊎_elim, ◌↔◌}
-use mathlib.Core.Bool.{true, cond, ◌&&◌}
-use mathlib.Core.List.{List, [], ◌∷◌, ◌++◌, map, flat_map, append_assoc}
-use Prim.Native.Nat.{ℕ, ◌+◌, ◌≤◌, ◌<◌}
+use mathlib.Core.Logic.{inl, inr, ⊎_elim}
+use mathlib.Core.Bool.{true, ◌&&◌}
+use mathlib.Core.List.{List, [], ◌∷◌, ◌++◌, map, flat_map}
+use Prim.Native.Nat.{ℕ, ◌≤◌, ◌<◌}
 use native.Mathlib.Omega.{arith}
-use lib.Dec.{eqb, ltb}
-use lib.ListN.{length, get_or, replicate, length-map, get_or-eq_default}
+use lib.Dec.{eqb}
+use lib.ListN.{length, replicate, get_or-eq_default}
 use borrow.Author.Tests.{ltb-true}
 use Rattle.laws.specs.Lists.{all, keep, is_in, from}
 use Rattle.laws.proofs.Cases.{by_bool, by_lt, same_test}
-use Rattle.entity.specs.Limits.{block_limit, inst_limit}
 use Rattle.entity.specs.declared.forms.Place.{Place}
 use Rattle.entity.specs.declared.forms.Edit.{Edit}
 use Rattle.entity.specs.declared.forms.Edit.TheVariants.{Nothing}
@@ -28,12 +27,11 @@ use Rattle.run.proofs.Stand.{in_map, here}
 use Rattle.run.proofs.Lists.{either, all_true}
 use Rattle.table.specs.Sheet.{sheet_in}
 use Rattle.table.specs.Edits.{edit_in}
-use Rattle.table.specs.Index.{range_in}
 use Rattle.table.specs.Rows.{count_in}
 use Rattle.table.proofs.Loops.{and_left, and_right}
 use Rattle.table.proofs.Sheets.{members_at, members_long}
 use Rattle.table.proofs.Stored.{edits_at_lem}
-use Rattle.dead_spill_elimination.specs.Slots.{numbers, back, edits_back, inst_back, step_back, block_back, Lows}
+use Rattle.dead_spill_elimination.specs.Slots.{back, edits_back, inst_back, step_back, block_back, Lows}
 use Rattle.dead_spill_elimination.specs.Touched.{touched_to}
 use Rattle.dead_spill_elimination.specs.Worklist.{Facts}
 use Rattle.dead_spill_elimination.specs.Held.{the_edits, the_places, Held}

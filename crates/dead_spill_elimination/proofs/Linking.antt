@@ -1,9 +1,9 @@
 -- For `Linked` of specs/Strikes.antt: what the code looks up is what the sheet says: the rows at an instruction, its operands, and what is wanted before it. Assumes nothing.
 use mathlib.Core.Path.{◌≡◌, refl, sym, ◌∙◌, ap}
-use mathlib.Core.Logic.{◌⊎◌, ⊎_elim}
+use mathlib.Core.Logic.{⊎_elim}
 use mathlib.Core.Bool.{Bool, true, false, cond, not, ◌&&◌, ◌||◌}
 use mathlib.Core.List.{List, [], ◌∷◌, ◌++◌, flat_map, zip_with, append_assoc}
-use Prim.Native.Nat.{ℕ, suc, ◌+◌, ◌-◌, ◌*◌, ◌≤◌, ◌<◌}
+use Prim.Native.Nat.{ℕ, suc, ◌+◌, ◌*◌, ◌≤◌, ◌<◌}
 use native.Mathlib.Omega.{arith}
 use lib.Dec.{eqb}
 use lib.ListN.{length, get_or, replicate, get_or-eq_default}
@@ -22,7 +22,7 @@ use Rattle.rules.specs.Sheet.{Sheet, OpRow, is_use, inst_count}
 use Rattle.rules.specs.Words.{def_word, early_word}
 use Rattle.rules.specs.Accept.{operands_at, inst_exists, subject_exists, constraint_exists, place_exists}
 use Rattle.rules.specs.Forward.{indexed, all_defs, edits_at}
-use Rattle.rules.specs.Function.{edit, inst, inst_of, slot_of, slots_of, In}
+use Rattle.rules.specs.Function.{edit, inst, inst_of, slot_of, slots_of}
 use Rattle.rules.specs.Sweep.{without_all, wanted_by, wanted_before}
 use Rattle.rules.proofs.Refusals.{in_limits, all_named_lem, each_named}
 use Rattle.run.proofs.Sets.{is_in_lem}

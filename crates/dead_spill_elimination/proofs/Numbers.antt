@@ -2,12 +2,11 @@
 --     at_numbers       where first fields never fall, the rows at x have the numbers from `before x` to `before (x + 1)`
 --     flat_pairs, flat_rows, any_rows     what is read off those rows, by their numbers
 use mathlib.Core.Path.{◌≡◌, refl, sym, ◌∙◌, ap}
-use mathlib.Core.Bool.{Bool, true, false, cond, ◌&&◌, ◌||◌}
-use mathlib.Core.List.{List, [], ◌∷◌, ◌++◌, map, flat_map, zip, zip_with}
-use Prim.Native.Nat.{ℕ, zero, suc, ◌+◌, ◌-◌, ◌≤◌, ◌<◌}
-use native.Mathlib.Numerals.{add-one}
+use mathlib.Core.Bool.{Bool, true, false, ◌&&◌, ◌||◌}
+use mathlib.Core.List.{List, [], ◌∷◌, map, flat_map, zip, zip_with}
+use Prim.Native.Nat.{ℕ, suc, ◌+◌, ◌-◌, ◌≤◌, ◌<◌}
 use native.Mathlib.Omega.{arith}
-use lib.Dec.{eqb, ltb}
+use lib.Dec.{eqb}
 use lib.ListN.{length, get_or}
 use borrow.Author.Tests.{lt-ltb, le-ltb, eq-eqb, ne_eqb}
 use Rattle.laws.specs.Lists.{any, is_in, keep, from}
@@ -16,7 +15,6 @@ use Rattle.laws.proofs.Lists.{is_append}
 use Rattle.rules.specs.Rows.{first}
 use Rattle.table.specs.Sheet.{rows_at}
 use Rattle.table.specs.Index.{before, Part, range_in, NeverFalls}
-use Rattle.table.specs.declared.index.Range.{Range}
 use Rattle.dead_spill_elimination.specs.Slots.{numbers}
 
 -- those of l that pass q, with their numbers, counted from s

@@ -2,11 +2,10 @@
 --     Good, Inv     the shape of the state, and what it says of a function
 --     good_turn, less_turn, inv_turn      a turn keeps them, and brings the weight down
 --     inv_first, inv_last     with nothing wanted and every block waiting; with no block waiting
-use mathlib.Core.Path.{◌≡◌, refl, sym, ◌∙◌, ap, subst}
-use mathlib.Core.Logic.{◌⊎◌, inl, inr, ⊎_elim, ◌↔◌}
-use mathlib.Core.Bool.{true, false}
+use mathlib.Core.Path.{◌≡◌, sym, ◌∙◌, ap}
+use mathlib.Core.Logic.{⊎_elim, ◌↔◌}
 use mathlib.Core.List.{List}
-use Prim.Native.Nat.{ℕ, ◌-◌, ◌^◌, ◌≤◌, ◌<◌}
+use Prim.Native.Nat.{ℕ, ◌^◌, ◌<◌}
 use native.Mathlib.Omega.{arith}
 use lib.ListN.{length, get_or, set, length-set}
 use Rattle.laws.specs.Digits.{bit}
@@ -14,7 +13,7 @@ use Rattle.laws.specs.Lists.{is_in}
 use Rattle.laws.proofs.Bit.{bit_zero}
 use Rattle.laws.proofs.Cases.{never}
 use Rattle.rules.specs.Sheet.{preds_of}
-use Rattle.rules.specs.Function.{Func, ops_of, next_of, In}
+use Rattle.rules.specs.Function.{Func, ops_of, In}
 use Rattle.rules.specs.Sweep.{wanted_at}
 use Rattle.run.specs.Swept.{WantedAtEnd}
 use Rattle.run.proofs.Sets.{is_in_lem}

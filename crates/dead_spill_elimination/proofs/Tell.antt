@@ -6,12 +6,11 @@ use Prim.Native.Nat.{ℕ, zero, suc, ◌+◌, ◌-◌, ◌*◌, ◌/◌, ◌%◌
 use native.Mathlib.Nat.{div-eq_of_lt, lt_of_lt_of_le}
 use native.Mathlib.Omega.{arith}
 use lib.Bits.{bit_and, bit_or}
-use lib.Dec.{eqb}
 use lib.Pow.{pow_mono}
-use lib.ListN.{length, get_or, get_or-eq_default}
+use lib.ListN.{get_or}
 use borrow.Author.Tests.{eq-eqb, ne_eqb, lt-ltb, le-ltb}
 use Rattle.laws.specs.Digits.{bit, has_in}
-use Rattle.laws.specs.Lists.{any, keep, is_in, from}
+use Rattle.laws.specs.Lists.{any, is_in, from}
 use Rattle.laws.proofs.Bit.{bit_zero, bit_of_and, bit_of_or, bit_not}
 use Rattle.laws.proofs.Words.{at_word}
 use Rattle.laws.proofs.Cases.{by_lt, by_eq}

@@ -1,8 +1,8 @@
 -- For src/touched.rt: the two words of an instruction have the slots that its operands define and those that they read. Assumes nothing.
 use mathlib.Core.Path.{◌≡◌, refl, sym, ◌∙◌, ap}
 use mathlib.Core.Logic.{inl}
-use mathlib.Core.Bool.{Bool, true, false, cond, ◌&&◌, ◌||◌}
-use mathlib.Core.List.{List, [], ◌∷◌}
+use mathlib.Core.Bool.{Bool, true, false, ◌&&◌, ◌||◌}
+use mathlib.Core.List.{List, []}
 use Prim.Native.Nat.{ℕ, zero, suc, ◌+◌, ◌*◌, ◌%◌, ◌≤◌, ◌<◌}
 use native.Mathlib.Numerals.{add-one}
 use native.Mathlib.Omega.{arith}
@@ -17,7 +17,7 @@ use Rattle.laws.specs.Lists.{any, is_in, from}
 use Rattle.laws.proofs.Bit.{bit_zero, bit_of_or, bit_with}
 use Rattle.laws.proofs.Cases.{by_bool, by_eq, eqb_same}
 use Rattle.laws.proofs.Lists.{zeros, run_more}
-use Rattle.entity.specs.Limits.{slot_limit, inst_limit}
+use Rattle.entity.specs.Limits.{inst_limit}
 use Rattle.entity.specs.declared.forms.Place.{Place}
 use Rattle.entity.specs.declared.forms.Place.TheVariants.{Reg, Slot}
 use Rattle.rules.specs.Words.{def_word, early_word, use_word}

@@ -1,23 +1,21 @@
 -- For `sweep_edits` of src/sweep.rt: the sweep is the definitions' sweep: the words at the ends are `ends`, and the rows struck by them are `strike_blocks`. Assumes nothing.
 use mathlib.Core.Path.{◌≡◌, refl, sym, ◌∙◌, ap, subst}
 use mathlib.Core.Logic.{◌↔◌}
-use mathlib.Core.Bool.{true, false, and-false}
+use mathlib.Core.Bool.{true}
 use mathlib.Core.List.{List, [], ◌∷◌, map}
 use Prim.Native.Nat.{ℕ, zero, suc, ◌≤◌, ◌<◌}
 use native.Mathlib.Omega.{arith}
-use lib.Dec.{leb}
 use lib.ListN.{length, get_or, drop, take, replicate, length-replicate, get_or-replicate}
 use lib.Seq.{drop-nil, length-take-le, take_all, get_or-take}
-use borrow.Author.Tests.{leb-true}
 use Rattle.laws.specs.Digits.{bit}
 use Rattle.laws.specs.Lists.{is_in}
-use Rattle.laws.proofs.Cases.{same_test, by_bool}
+use Rattle.laws.proofs.Cases.{same_test}
 use Rattle.entity.specs.Limits.{block_limit, edit_limit}
 use Rattle.entity.specs.declared.forms.Place.{Place}
 use Rattle.entity.specs.declared.forms.Edit.{Edit}
 use Rattle.rules.specs.Sheet.{Sheet, block_count}
 use Rattle.rules.specs.Function.{Op, Func, Item, row, ins, items, look, func_of}
-use Rattle.rules.specs.Sweep.{ends, struck, strike_blocks}
+use Rattle.rules.specs.Sweep.{ends}
 use Rattle.rules.proofs.Refusals.{in_limits}
 use Rattle.run.specs.Swept.{WantedAtEnd, ReadsWithin}
 use Rattle.run.proofs.Rows.{ops_look}

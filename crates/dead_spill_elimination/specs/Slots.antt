@@ -9,7 +9,7 @@ use Rattle.entity.specs.Limits.{slot_limit, block_limit, inst_limit}
 use Rattle.entity.specs.declared.forms.Edit.{Edit}
 use Rattle.rules.specs.{Sheet.is_use, Forward.all_defs, Sweep.without_all, Sweep.wanted_before}
 use Rattle.rules.specs.Function.{Op, edit, slot_of, Target, into, over, target, reads, In}
-use Rattle.table.specs.{Layout.edit_index, Layout.inst_index, Layout.op_index, Sheet.sheet_in, View.op_row, Edits.edit_in, Edits.place_in, Index.range_in}
+use Rattle.table.specs.{Layout.edit_index, Layout.inst_index, Sheet.sheet_in, View.op_row, Edits.edit_in, Edits.place_in, Index.range_in}
 use Rattle.table.specs.declared.index.Range.{Range}
 use Rattle.entity.specs.declared.forms.Place.{Place}
 

@@ -1,6 +1,6 @@
 -- Dominance, by the climb from block to idom. Assumes nothing.
 use mathlib.Core.Path.{◌≡◌, refl, sym, ap, ◌∙◌}
-use mathlib.Core.Bool.{Bool, true, false, ◌&&◌, ◌||◌, or-false}
+use mathlib.Core.Bool.{Bool, false, ◌&&◌, ◌||◌, or-false}
 use mathlib.Core.Option.{Option, none, some, Option-elim}
 use Prim.Native.Nat.{ℕ, zero, suc, ◌≤◌, ◌<◌}
 use native.Mathlib.Omega.{arith}

@@ -1,4 +1,6 @@
 // How blocks stand to each other: their neighbours as the rows list them, and dominance by the rows' idoms.
+#![tactic(auto)]
+
 ghost use Rattle.std.specs.Prelude.{◌≡◌};
 ghost use Rattle.entity.specs.Limits.{block_limit};
 ghost use Rattle.rules.specs.Sheet.{succs_of, preds_of};

@@ -22,7 +22,6 @@ use Rattle.entity.specs.declared.numbers.SpillSlot.{SpillSlot}
 use Rattle.entity.specs.declared.forms.Place.{Place}
 use Rattle.entity.specs.declared.forms.Place.TheVariants.{Reg, Slot}
 use Rattle.entity.specs.declared.sets.FoundReg.{FoundReg}
-use Rattle.entity.specs.declared.sets.FoundReg.TheVariants as FoundReg
 use Rattle.rules.specs.Sheet.{Sheet, reg_count, is_memory}
 use Rattle.rules.specs.Accept.{within_limits}
 use Rattle.rules.specs.Record.{Record, absent, holds, is_home}
@@ -34,7 +33,6 @@ use Rattle.record.proofs.Sections.{stored_is, spilled_is}
 use Rattle.holders.specs.Holders.{allows, reg_found}
 use Rattle.moves.specs.Moves.{source_of, fate_by, source_for, fate_of, SmallFate}
 use Rattle.moves.specs.declared.Source.{Source}
-use Rattle.moves.specs.declared.Source.TheVariants as Source
 use Rattle.moves.specs.declared.Arrival.{Arrival}
 use Rattle.moves.specs.declared.Fate.TheVariants.{Kept, Removed, Sourced}
 

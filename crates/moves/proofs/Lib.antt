@@ -1,4 +1,3 @@
 pub mod Deciding
 pub mod Walks
 pub mod Moving
-mod Lent

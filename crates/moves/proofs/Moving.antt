@@ -9,14 +9,12 @@
 --     effects_none, effects_next, effects_end the same in the preparing walk
 use mathlib.Core.Path.{◌≡◌, refl, sym, ◌∙◌, ap}
 use mathlib.Core.Bool.{Bool, true, false, ◌||◌}
-use mathlib.Core.List.{List, [], ◌∷◌}
+use mathlib.Core.List.{List}
 use mathlib.Core.Option.{Option, none, some, Option-elim}
 use Prim.Native.Nat.{ℕ, suc, ◌+◌, ◌-◌, ◌*◌, ◌<◌, ◌≤◌}
 use native.Mathlib.Omega.{arith}
 use lib.ListN.{length, get_or, set}
 use lib.Seq.{set-get_or}
-use denote.Enum.Declared.{tag_of}
-use types.Run.{OneOf, miss}
 use borrow.Author.Tests.{lt-ltb, le-ltb}
 use Rattle.laws.specs.Fold.{run}
 use Rattle.laws.specs.Lists.{from}
@@ -24,13 +22,11 @@ use Rattle.laws.proofs.Cases.{by_bool, by_lt}
 use Rattle.laws.proofs.Lists.{run_more}
 use Rattle.entity.specs.Limits.{inst_limit, edit_limit}
 use Rattle.entity.specs.declared.numbers.PhysReg.{PhysReg}
-use Rattle.entity.specs.declared.numbers.SpillSlot.{SpillSlot}
 use Rattle.entity.specs.declared.numbers.Value.{Value}
 use Rattle.entity.specs.declared.forms.Place.{Place}
 use Rattle.entity.specs.declared.forms.Place.TheVariants.{Reg}
 use Rattle.entity.specs.declared.forms.Edit.{Edit}
 use Rattle.entity.specs.declared.forms.Edit.TheVariants.{Move, Remat, Espill, Ereload, Misplaced, Nothing}
-use Rattle.entity.specs.contracts.forms.Edit as Edits
 use Rattle.rules.specs.Cells.{number_limit}
 use Rattle.rules.specs.Sheet.{Sheet}
 use Rattle.rules.specs.Accept.{placed}
@@ -56,7 +52,6 @@ use Rattle.holders.specs.Holders.{Filled}
 use Rattle.moves.specs.Walks.{Ordered, Written, Walked, Optimises}
 use Rattle.moves.specs.Moves.{source_of, edit_by, as_edit, fate_by, source_for, fate_of, settled, fated_record, recounted, rewritten, SmallArrival, SmallFate}
 use Rattle.moves.specs.declared.Source.{Source}
-use Rattle.moves.specs.declared.Source.TheVariants as Source
 use Rattle.moves.specs.declared.Arrival.{Arrival}
 use Rattle.moves.specs.declared.Fate.{Fate}
 use Rattle.moves.specs.declared.Fate.TheVariants.{Kept, Removed, Sourced}
@@ -253,12 +248,12 @@ walked_rec : {t rec rec' edits places counts : List ℕ} {w : Walk} (n : ℕ) (f
     → Walked t rec edits places counts (n + 1) w → Walked t rec' edits places counts n (with_rec f w)
 walked_rec n f p k = walked_with f p (walked_fewer n (omega arith) k)
 
--- an edit whose tag is neither a move's nor a remat's changes the record alone
-other_is : (sh : Sheet) (b j : ℕ) (w : Walk) (e : Edit) → OneOf (1 ∷ 2 ∷ 3 ∷ 4 ∷ 5 ∷ []) (tag_of Edits.the_type e) → OneOf (0 ∷ 2 ∷ 3 ∷ 4 ∷ 5 ∷ []) (tag_of Edits.the_type e)
+-- an edit that is neither a move nor a remat changes the record alone
+other_is : (sh : Sheet) (b j : ℕ) (w : Walk) (e : Edit) → ((to p : Place) (v : Value) → e ≡ Move to p v → ⊥) → ((to : Place) (v : Value) → e ≡ Remat to v → ⊥)
     → get_or w.edits j Nothing ≡ e → optimise_edit sh b w j ≡ with_rec (effect sh e) w
 unfolding optimise_edit effect
-other_is sh b j w (Move to p v) x y q = absurd (miss (1 ∷ 2 ∷ 3 ∷ 4 ∷ 5 ∷ []) 0 tt x)
-other_is sh b j w (Remat to v) x y q = absurd (miss (0 ∷ 2 ∷ 3 ∷ 4 ∷ 5 ∷ []) 1 tt y)
+other_is sh b j w (Move to p v) x y q = absurd (x to p v refl)
+other_is sh b j w (Remat to v) x y q = absurd (y to v refl)
 other_is sh b j w (Espill s r) x y q = rw (q, optimise_edit) refl
 other_is sh b j w (Ereload r s) x y q = rw (q, optimise_edit) refl
 other_is sh b j w (Misplaced to p) x y q = rw (q, optimise_edit) refl
@@ -284,7 +279,7 @@ module _ {t classes rec edits counts : List ℕ} (b j : ℕ) {e : Edit} (r : e �
           rw (row ∙ q, optimise_edit) (m g fl places n w h (row ∙ q) k);
     }
 
-  pub edit_other : {rec' : List ℕ} → OneOf (1 ∷ 2 ∷ 3 ∷ 4 ∷ 5 ∷ []) (tag_of Edits.the_type e) → OneOf (0 ∷ 2 ∷ 3 ∷ 4 ∷ 5 ∷ []) (tag_of Edits.the_type e)
+  pub edit_other : {rec' : List ℕ} → ((to p : Place) (v : Value) → e ≡ Move to p v → ⊥) → ((to : Place) (v : Value) → e ≡ Remat to v → ⊥)
       → (Long rec → Becomes rec rec' (effect (sheet_in t) e (record_in rec))) → Optimises t classes rec edits counts rec' edits counts b j
   edit_other x y p = record {
     goes = λ g fl places n w h k. rw (other_is (sheet_in t) b j w e x y (row_is (n + 1) j h k ∙ sym r)) (walked_rec n (effect (sheet_in t) e) p k);

@@ -8,7 +8,6 @@ use Rattle.rules.specs.{Cells.number_limit, Sheet.Sheet, Record.Record, Record.a
 use Rattle.rules.specs.Forward.{Walk, reload_to_move, count, already, spilled_above, note_spill, removal, new_source}
 use Rattle.table.specs.Edits.{SmallPlace}
 use Rattle.moves.specs.declared.Source.{Source}
-use Rattle.moves.specs.declared.Source.TheVariants as Source
 use Rattle.moves.specs.declared.Arrival.{Arrival}
 use Rattle.moves.specs.declared.Fate.{Fate, TheVariants.Kept, TheVariants.Removed, TheVariants.Sourced}
 

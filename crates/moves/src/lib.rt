@@ -1,5 +1,7 @@
 // An edit in the optimising walk: removed, given a cheaper source, or kept; and an edit in the preparing walk. The rules are those of "an edit" in
 // `rules/specs/Forward.antt`.
+#![tactic(auto)]
+
 ghost use Rattle.std.specs.Prelude.{◌≡◌, List, ℕ, ◌+◌, ◌<◌, length, get_or};
 ghost use Rattle.laws.specs.Fold.{run};
 ghost use Rattle.entity.specs.Limits.{edit_limit};

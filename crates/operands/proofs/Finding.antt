@@ -30,9 +30,7 @@ use Rattle.table.proofs.Ranges.{before_within}
 use Rattle.table.proofs.Lookups.{ops_of_lem}
 use Rattle.operands.specs.Operands.{as_row, operand_found, class_found, reused_class}
 use Rattle.operands.specs.declared.FoundOperand.{FoundOperand}
-use Rattle.operands.specs.declared.FoundOperand.TheVariants as FoundOperand
 use Rattle.operands.specs.declared.FoundClass.{FoundClass}
-use Rattle.operands.specs.declared.FoundClass.TheVariants as FoundClass
 
 -- ---- operand k of an instruction
 

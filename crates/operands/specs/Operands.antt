@@ -5,9 +5,7 @@ use Rattle.rules.specs.{Sheet.Sheet, Sheet.OpRow, Accept.operand, Accept.class_o
 use Rattle.table.specs.declared.view.Operand.{Operand}
 use Rattle.table.specs.View.{operand_of}
 use Rattle.operands.specs.declared.FoundOperand.{FoundOperand}
-use Rattle.operands.specs.declared.FoundOperand.TheVariants as FoundOperand
 use Rattle.operands.specs.declared.FoundClass.{FoundClass}
-use Rattle.operands.specs.declared.FoundClass.TheVariants as FoundClass
 
 -- an operand as the row that says it
 unfoldable pub as_row : Operand → OpRow

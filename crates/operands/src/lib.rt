@@ -1,4 +1,6 @@
 // What several stages ask of an operand: the fields of its row, the operand that it reuses, its class, and the register group that it begins.
+#![tactic(auto)]
+
 ghost use Rattle.std.specs.Prelude.{◌≡◌};
 ghost use Rattle.rules.specs.Sheet.{Sheet};
 ghost use Rattle.rules.specs.Accept.{operand, class_of, class_for, headed_by};

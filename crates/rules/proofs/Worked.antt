@@ -1,6 +1,5 @@
 -- The worked sheets, by computing.
-use mathlib.Core.Path.{◌≡◌, refl}
-use mathlib.Core.List.{flat_map}
+use mathlib.Core.Path.{refl}
 use Rattle.rules.proofs.Computing.{computing}
 use Rattle.rules.specs.Readings.{Readings}
 use Rattle.rules.specs.Worked.{lines, WorkedSheet}

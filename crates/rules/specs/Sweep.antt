@@ -3,7 +3,7 @@
 use Rattle.std.specs.Prelude.{◌≡◌, Bool, true, false, cond, not, ◌&&◌, ℕ, zero, suc, ◌+◌, ◌*◌, eqb, length, get_or, set}
 use mathlib.Core.List.{List, [], ◌∷◌, map, zip}
 use Rattle.laws.specs.Fold.{run}
-use Rattle.laws.specs.Lists.{all, keep, is_in, from}
+use Rattle.laws.specs.Lists.{all, keep, is_in}
 use Rattle.entity.specs.Limits.{slot_limit}
 use Rattle.rules.specs.Sheet.{Place, Edit, Move, Remat, Espill, Ereload, Misplaced, Nothing, Sheet}
 use Rattle.rules.specs.Forward.{Walk, count, dead_spill, dead_remat, blocks}

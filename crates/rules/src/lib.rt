@@ -1,5 +1,7 @@
 // The rules of document 01 as definitions: read specs/ in the order of specs/Lib.antt, with document 01 beside it.
 // The functions do nothing: each contract is a theorem that guards the definitions, so that no check passes without it.
+#![tactic(auto)]
+
 ghost use Rattle.std.specs.Prelude.{◌≡◌};
 ghost use Rattle.rules.specs.Cells.{word, number_limit, word_mark, reg_mark, slot_mark, class_mark, fixed_mark, reuse_mark, mark_end};
 ghost use Rattle.rules.specs.Words.{Named};

@@ -1,11 +1,11 @@
 -- Facts on lists, on `In` of rules/specs/Function.antt and on walks, for the other proofs of this crate and for the sweep's. Assumes nothing.
-use mathlib.Core.Path.{◌≡◌, refl, ap}
+use mathlib.Core.Path.{◌≡◌}
 use mathlib.Core.Bool.{Bool, true}
 use mathlib.Core.Logic.{◌⊎◌, inl, inr, ⊎_elim}
 use mathlib.Core.List.{List, [], ◌∷◌, ◌++◌, map}
 use Prim.Native.Nat.{ℕ, zero, suc, ◌+◌, ◌<◌}
 use native.Mathlib.Omega.{arith}
-use lib.ListN.{length, get_or, drop}
+use lib.ListN.{get_or, drop}
 use Rattle.laws.specs.Lists.{from, all}
 use Rattle.laws.proofs.Cases.{and_left, and_right}
 use Rattle.rules.specs.Function.{In}

@@ -5,7 +5,7 @@
 --     reads_within   the function of such a walk reads slots below the limit
 --     walk_in        the walk of an accepted sheet is such
 use mathlib.Core.Path.{◌≡◌, sym, ◌∙◌, ap}
-use mathlib.Core.Logic.{◌⊎◌, ⊎_elim}
+use mathlib.Core.Logic.{⊎_elim}
 use mathlib.Core.Bool.{Bool, true, false, cond, ◌&&◌, ◌||◌}
 use mathlib.Core.List.{List, [], ◌∷◌, map, flat_map, zip, zip_with}
 use mathlib.Core.Option.{Option, none, some, Option-elim}

@@ -1,5 +1,7 @@
 // The sweep of document 01 is safe and exact: read specs/Theorem.antt for what is proved.
 // The functions do nothing: each contract is a theorem, so that no check passes without it.
+#![tactic(auto)]
+
 ghost use Rattle.run.specs.Theorem.{Safe, Exact, Once, SafeRows, ExactRows, OnceRows, StandOnce, WantedComputed, ComputedRows, OthersStay, Agreement, SweepIs, AcceptedWithin, SafeCall, ExactCall, Clobbers};
 
 pub fn sweep_is_safe()

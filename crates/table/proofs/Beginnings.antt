@@ -5,7 +5,7 @@ use mathlib.Core.List.{List, [], ◌∷◌}
 use Prim.Native.Nat.{ℕ, zero, suc, ◌+◌, ◌-◌, ◌<◌, ◌≤◌}
 use native.Mathlib.Nat.{add-zero}
 use native.Mathlib.Omega.{arith}
-use lib.ListN.{length, get_or, take, drop, set, length-set, get_or-map}
+use lib.ListN.{length, get_or, take, set, length-set, get_or-map}
 use lib.Seq.{drop-set-lt, get_or-set_same, get_or-set_other}
 use lib.Dec.{ltb}
 use Rattle.laws.specs.Lists.{keep, from}

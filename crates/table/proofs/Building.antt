@@ -1,17 +1,16 @@
 -- The index (specs/Index.antt: `Built`), once it is built: for src/index.rt. Assumes nothing.
-use mathlib.Core.Path.{◌≡◌, refl, sym, ap, ◌∙◌}
-use mathlib.Core.Bool.{Bool, true, ◌&&◌}
-use mathlib.Core.List.{List, [], ◌∷◌, map}
-use Prim.Native.Nat.{ℕ, zero, suc, ◌+◌, ◌-◌, ◌≤◌, ◌<◌}
+use mathlib.Core.Path.{◌≡◌, sym, ap, ◌∙◌}
+use mathlib.Core.Bool.{true}
+use mathlib.Core.List.{List}
+use Prim.Native.Nat.{ℕ, ◌+◌, ◌≤◌}
 use native.Mathlib.Omega.{arith}
-use lib.ListN.{get_or, take}
+use lib.ListN.{take}
 use Rattle.entity.specs.Limits.{block_limit, inst_limit}
 use Rattle.rules.specs.Sheet.{Sheet, total_of, sheet_of}
 use Rattle.rules.specs.Accept.{within_limits}
 use Rattle.rules.proofs.Refusals.{in_limits}
 use Rattle.table.specs.Layout.{clob_index, edit_index, inst_index, op_index, param_index, pred_index, succ_index}
 use Rattle.table.specs.Table.{Indexed}
-use Rattle.table.specs.Sheet.{rows_at, sheet_in}
 use Rattle.table.specs.Index.{before, of_kind, Filled, Built}
 use Rattle.table.proofs.Sheets.{rows_are, sheet_in_is}
 

@@ -1,30 +1,29 @@
 -- For the look-ups of src/index.rt and src/view.rt: what is looked up by the index of a table that is ready is what the sheet says. Assumes nothing.
 use mathlib.Core.Path.{◌≡◌, refl, sym, ap, ◌∙◌}
-use mathlib.Core.Bool.{Bool, true, cond, ◌&&◌, ◌||◌}
+use mathlib.Core.Bool.{Bool, true, cond, ◌&&◌}
 use mathlib.Core.List.{List, [], ◌∷◌, map, flat_map}
-use mathlib.Core.Option.{Option-elim}
 use Prim.Native.Nat.{ℕ, zero, suc, ◌+◌, ◌-◌, ◌≤◌, ◌<◌}
 use native.Mathlib.Nat.{zero-add}
 use native.Mathlib.Numerals.{add-one}
 use native.Mathlib.Omega.{arith}
 use lib.Dec.{eqb, ltb}
-use lib.ListN.{length, get_or, take, drop, length-map, get_or-map, get_or-eq_default}
+use lib.ListN.{length, get_or, take, drop}
 use borrow.Author.Tests.{ltb-true, lt-ltb, le-ltb}
 use Rattle.laws.specs.Lists.{all, keep, from}
 use Rattle.laws.proofs.Cases.{by_lt}
 use Rattle.laws.proofs.Lists.{part_map, flat_map_lem}
 use Rattle.entity.specs.Limits.{block_limit, inst_limit}
 use Rattle.rules.specs.Rows.{first}
-use Rattle.rules.specs.Sheet.{Sheet, BlockRow, ListRow, ParamRow, OpRow, EditRow, list_row, list_at, succs_of, preds_of, clobbers_of, insts_from, insts_of, block_count, inst_count, total_of}
+use Rattle.rules.specs.Sheet.{Sheet, BlockRow, ListRow, list_row, list_at, succs_of, preds_of, clobbers_of, insts_from, insts_of, block_count, inst_count}
 use Rattle.rules.specs.Accept.{block_exists, inst_exists, value_exists, place_exists, subject_exists, constraint_exists, unit_exists, edit_names, operands_at, in_order}
 use Rattle.rules.proofs.Refusals.{InLimits, in_limits, all_named_lem, Named, each_named}
 use Rattle.table.specs.Layout.{clob_index, inst_index, op_index, param_index, pred_index, succ_index}
-use Rattle.table.specs.Rows.{count_in, kind_row}
+use Rattle.table.specs.Rows.{kind_row}
 use Rattle.table.specs.Sheet.{rows_at, sheet_in}
-use Rattle.table.specs.Index.{range_in, Ready, NeverFalls, Rises}
+use Rattle.table.specs.Index.{range_in, Ready, NeverFalls}
 use Rattle.table.specs.declared.index.Range.{Range}
-use Rattle.table.proofs.Loops.{and_left, and_right, all_at, all_map, keep_map, keep_same}
-use Rattle.table.proofs.Sheets.{param_row_of, op_row_of, edit_row_of, succs_are, preds_are, params_are, ops_are, clobs_are, edits_are, blocks_are}
+use Rattle.table.proofs.Loops.{and_left, all_at, all_map, keep_map, keep_same}
+use Rattle.table.proofs.Sheets.{param_row_of, op_row_of, edit_row_of, succs_are, preds_are, params_are, ops_are, clobs_are, edits_are}
 use Rattle.table.proofs.Ranges.{at_x, rows_of, list_of, insts_at}
 use Rattle.table.proofs.Orders.{edits_fall, ready_succs, ready_preds, ready_params, ready_ops, ready_clobs}
 

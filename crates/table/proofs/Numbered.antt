@@ -1,9 +1,9 @@
 -- For the passes that walk an instruction's edit and operand rows by number (`edits_at` of rules/specs/Forward.antt): the numbers are those of the range that the index gives.
 -- Assumes nothing.
-use mathlib.Core.Path.{◌≡◌, refl, sym, ap, ◌∙◌}
-use mathlib.Core.Bool.{Bool, true}
+use mathlib.Core.Path.{◌≡◌, refl, ap, ◌∙◌}
+use mathlib.Core.Bool.{true}
 use mathlib.Core.List.{List, [], ◌∷◌, map, zip, zip_with}
-use Prim.Native.Nat.{ℕ, zero, suc, ◌+◌, ◌-◌, ◌≤◌, ◌<◌}
+use Prim.Native.Nat.{ℕ, suc, ◌+◌, ◌-◌, ◌≤◌, ◌<◌}
 use native.Mathlib.Nat.{zero-add}
 use native.Mathlib.Omega.{arith}
 use lib.Dec.{eqb}
@@ -13,13 +13,12 @@ use Rattle.laws.specs.Lists.{keep, from}
 use Rattle.laws.proofs.Cases.{by_bool, by_lt, by_eq}
 use Rattle.entity.specs.Limits.{inst_limit}
 use Rattle.rules.specs.Rows.{first}
-use Rattle.rules.specs.Sheet.{Sheet, OpRow, EditRow}
+use Rattle.rules.specs.Sheet.{OpRow, EditRow}
 use Rattle.rules.specs.Accept.{in_order}
 use Rattle.rules.specs.Forward.{edits_at}
 use Rattle.table.specs.Layout.{edit_index, op_index}
 use Rattle.table.specs.Sheet.{rows_at, sheet_in}
 use Rattle.table.specs.Index.{before, range_in, Part, NeverFalls, Ready}
-use Rattle.table.specs.declared.index.Range.{Range}
 use Rattle.table.proofs.Sheets.{edit_row_of, op_row_of, edits_are, ops_are}
 use Rattle.table.proofs.Orders.{ready_ops}
 use Rattle.table.proofs.Lookups.{edits_below, ops_below, edits_fall_in}

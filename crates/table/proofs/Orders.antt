@@ -1,19 +1,19 @@
 -- For `NeverFalls` and `Rises` of specs/Index.antt: the order of the rows of a sheet, and of those of a table that is ready. Assumes nothing.
 use mathlib.Core.Path.{◌≡◌, refl, sym, ap, ◌∙◌}
-use mathlib.Core.Bool.{Bool, true, false, cond, ◌&&◌, ◌||◌, and-false}
+use mathlib.Core.Bool.{Bool, true, ◌&&◌}
 use mathlib.Core.List.{List, [], ◌∷◌, map}
 use mathlib.Core.Option.{some, Option-elim}
-use Prim.Native.Nat.{ℕ, zero, suc, ◌+◌, ◌-◌, ◌≤◌, ◌<◌}
+use Prim.Native.Nat.{ℕ, zero, suc, ◌≤◌, ◌<◌}
 use native.Mathlib.Nat.{le_trans, lt_trans}
 use native.Mathlib.Omega.{arith}
-use lib.Dec.{eqb, ltb, leb}
+use lib.Dec.{eqb, leb}
 use lib.ListN.{length, get_or, length-map, get_or-map}
-use borrow.Author.Tests.{lt-ltb, le-ltb, eq-eqb, ne_eqb, ltb-true, leb-true, eqb-true}
+use borrow.Author.Tests.{le-ltb, eq-eqb, ne_eqb, ltb-true, leb-true, eqb-true}
 use Rattle.laws.specs.Lists.{all, keep}
-use Rattle.laws.proofs.Cases.{by_bool, by_lt, by_eq, by_option}
+use Rattle.laws.proofs.Cases.{by_bool, by_lt, by_option}
 use Rattle.rules.proofs.Words.{clob_word, op_word, param_word, pred_word, succ_word}
 use Rattle.rules.specs.Cells.{word}
-use Rattle.rules.specs.Rows.{Kind, Order, rises, never_falls, number, place, list₁, end, ◌▸◌, op_shape, kinds, kind_from, kind, first, goes_on, begins, pair_ok, pairs_ok, row_ok, sheet_ok, reading}
+use Rattle.rules.specs.Rows.{Kind, rises, never_falls, number, place, list₁, end, ◌▸◌, op_shape, kinds, kind_from, kind, first, goes_on, pair_ok, pairs_ok, row_ok, sheet_ok, reading}
 use Rattle.rules.specs.Sheet.{EditRow}
 use Rattle.rules.specs.Accept.{in_order}
 use Rattle.table.specs.Sheet.{rows_at}

@@ -5,7 +5,7 @@ use Rattle.laws.specs.Spans.{Span}
 use Rattle.entity.specs.Limits.{block_limit, inst_limit}
 use Rattle.rules.specs.Words.{slots_word}
 use Rattle.rules.specs.Rows.{kind, first, sheet_ok}
-use Rattle.rules.specs.Sheet.{Sheet, total_of}
+use Rattle.rules.specs.Sheet.{total_of}
 use Rattle.rules.specs.Accept.{within_limits, names_hold}
 use Rattle.table.specs.Layout.{clob_index, edit_index, inst_index, op_index, param_index, pred_index, succ_index}
 use Rattle.table.specs.Table.{Indexed}

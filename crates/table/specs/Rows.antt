@@ -1,5 +1,5 @@
 -- The rows in a table.
-use Rattle.std.specs.Prelude.{Bool, true, false, cond, List, [], ◌∷◌, ℕ, ◌+◌, ◌-◌, ltb, length, get_or, take, drop}
+use Rattle.std.specs.Prelude.{cond, List, [], ℕ, ◌+◌, ◌-◌, ltb, length, get_or, take, drop}
 use Rattle.table.specs.Layout.{kind_index}
 
 -- where row i starts: these stand from the table's end downward

@@ -6,10 +6,8 @@ use Rattle.entity.specs.declared.forms.Constraint.TheVariants.{Class}
 use Rattle.entity.specs.declared.forms.OperandKind.TheVariants.{NonAllocatable}
 use Rattle.entity.specs.declared.forms.Edit.TheVariants as Edit
 use Rattle.entity.specs.declared.sets.FoundBlock.{FoundBlock}
-use Rattle.entity.specs.declared.sets.FoundBlock.TheVariants as FoundBlock
 use Rattle.rules.specs.Sheet.{Sheet, GroupRow, ParamRow, OpRow, EditRow}
 use Rattle.table.specs.declared.view.FoundSlot.{FoundSlot}
-use Rattle.table.specs.declared.view.FoundSlot.TheVariants as FoundSlot
 use Rattle.table.specs.declared.view.Param.{Param}
 use Rattle.table.specs.declared.view.Operand.{Operand}
 

@@ -1,5 +1,7 @@
 // A sheet as one flat table of numbers: the cells of its rows, where each row starts, and an index of the rows.
 // How a sheet's bytes come into the table is left to `sheet`.
+#![tactic(auto)]
+
 pub mod counts;
 pub mod edits;
 pub mod index;

@@ -1,5 +1,4 @@
 use Rattle.graph.proofs.Stretches.{base_by}
-use borrow.Author.Rules.{rules}
 use Rattle.graph.proofs.first_cell.Goals as goal
 
 pub returns : goal.returns

@@ -1,5 +1,4 @@
 use Rattle.graph.proofs.Stretches.{list_none, list_some}
-use borrow.Author.Rules.{rules}
 use Rattle.graph.proofs.list_at.Goals as goal
 
 pub returns-then-rows : goal.returns-then-rows

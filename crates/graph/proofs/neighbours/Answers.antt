@@ -1,5 +1,4 @@
 use Rattle.graph.proofs.Stretches.{chosen_succs, chosen_preds}
-use borrow.Author.Rules.{rules}
 use Rattle.graph.proofs.neighbours.Goals as goal
 
 pub returns-in-Successors : goal.returns-in-Successors

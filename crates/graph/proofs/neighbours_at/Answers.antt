@@ -1,5 +1,4 @@
 use Rattle.graph.proofs.Stretches.{ranged_succs, ranged_preds}
-use borrow.Author.Rules.{rules}
 use Rattle.graph.proofs.neighbours_at.Goals as goal
 
 pub returns-in-Successors : goal.returns-in-Successors

@@ -1,5 +1,4 @@
 use Rattle.graph.proofs.Stretches.{neighbours_by}
-use borrow.Author.Rules.{rules}
 use Rattle.graph.proofs.neighbours_of.Goals as goal
 
 pub returns : goal.returns

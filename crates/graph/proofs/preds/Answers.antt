@@ -1,5 +1,4 @@
 use Rattle.graph.proofs.Stretches.{preds_by}
-use borrow.Author.Rules.{rules}
 use Rattle.graph.proofs.preds.Goals as goal
 
 pub returns : goal.returns

@@ -1,5 +1,4 @@
 use Rattle.graph.proofs.Stretches.{stretch_by}
-use borrow.Author.Rules.{rules}
 use Rattle.graph.proofs.stretch.Goals as goal
 
 pub returns : goal.returns

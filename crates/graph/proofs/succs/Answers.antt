@@ -1,5 +1,4 @@
 use Rattle.graph.proofs.Stretches.{succs_by}
-use borrow.Author.Rules.{rules}
 use Rattle.graph.proofs.succs.Goals as goal
 
 pub returns : goal.returns

@@ -1,5 +1,4 @@
 use Rattle.moves.proofs.Deciding.{already_reg, already_slot}
-use borrow.Author.Rules.{rules}
 use Rattle.moves.proofs.already.Goals as goal
 
 pub returns-in-Reg : goal.returns-in-Reg

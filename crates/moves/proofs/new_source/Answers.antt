@@ -1,7 +1,6 @@
 use Rattle.table.specs.Sheet.{sheet_in}
 use Rattle.record.specs.Flat.{record_in}
 use Rattle.moves.proofs.Deciding.{no_source, memory_source, kept_source}
-use borrow.Author.Rules.{rules}
 use Rattle.moves.proofs.new_source.Goals as goal
 
 pub returns-in-Nothing : goal.returns-in-Nothing

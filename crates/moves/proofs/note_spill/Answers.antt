@@ -1,6 +1,5 @@
 use Rattle.table.specs.Sheet.{sheet_in}
 use Rattle.moves.proofs.Moving.{noted_home, not_noted}
-use borrow.Author.Rules.{rules}
 use Rattle.moves.proofs.note_spill.Goals as goal
 
 pub returns-then-to_home : goal.returns-then-to_home

@@ -1,5 +1,4 @@
 use Rattle.moves.proofs.Moving.{edit_move, edit_remat, edit_other}
-use borrow.Author.Rules.{rules}
 use Rattle.moves.proofs.optimise_edit.Goals as goal
 
 pub returns-in-Move : goal.returns-in-Move
@@ -15,4 +14,4 @@ returns-in-Remat c = let a = c.args in
     c.optimise_move-in-Remat.ensures
 
 pub returns-in_default-e : goal.returns-in_default-e
-returns-in_default-e c = ?
+returns-in_default-e c = let a = c.args in edit_other a.b.0 a.j.0 c.read_edit-e.ensures c.in_default.not-Move c.in_default-e.not-Remat c.effect.ensures

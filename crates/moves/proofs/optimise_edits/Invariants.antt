@@ -1,9 +1,7 @@
-use mathlib.Core.Path.{◌≡◌, refl}
+use mathlib.Core.Path.{◌≡◌}
 use Prim.Native.Nat.{◌≤◌, ◌-◌}
-use native.Mathlib.Omega.{arith}
 use lib.ListN.{length}
-use borrow.Author.Rules.{rules}
-use Rattle.moves.proofs.Moving.{Passed, edits_none, edits_next, edits_end}
+use Rattle.moves.proofs.Moving.{Passed}
 use Rattle.moves.proofs.optimise_edits.Given as goal
 
 abbrev pub invariant-loop-j : goal.invariant-loop-j

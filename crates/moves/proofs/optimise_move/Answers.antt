@@ -1,5 +1,4 @@
 use Rattle.moves.proofs.Moving.{move_by}
-use borrow.Author.Rules.{rules}
 use Rattle.moves.proofs.optimise_move.Goals as goal
 
 pub returns : goal.returns

@@ -1,7 +1,5 @@
-use Prim.Native.Nat.{◌≤◌, ◌-◌}
 use native.Mathlib.Omega.{arith}
-use borrow.Author.Rules.{rules}
-use Rattle.moves.proofs.Moving.{Prepared, effects_none, effects_next, effects_end}
+use Rattle.moves.proofs.Moving.{effects_none, effects_next, effects_end}
 use Rattle.moves.proofs.prepare_edits.Goals as goal
 
 pub loop-j-init : goal.loop-j-init
@@ -9,12 +7,12 @@ loop-j-init c = let a = c.args in (omega arith, omega arith, effects_none a.t.no
 
 pub loop-j-preserved : goal.loop-j-preserved
 loop-j-preserved c = let g = c.loop-j in (
-      omega arith,
-      omega arith,
-      effects_next c.args.edits.now
-          c.args.i.0 c.edit_rows-rows.ensures
-          g.invariant.2 c.read_edit.ensures c.effect.ensures (omega arith) (omega arith),
-    )
+  omega arith,
+  omega arith,
+  effects_next c.args.edits.now
+      c.args.i.0 c.edit_rows-rows.ensures
+      g.invariant.2 c.read_edit.ensures c.effect.ensures (omega arith) (omega arith),
+)
 
 pub returns : goal.returns
 returns c = let g = c.loop-j in effects_end c.args.edits.now c.args.i.0 c.edit_rows-rows.ensures g.invariant.2 (omega arith) (omega arith) (omega arith)

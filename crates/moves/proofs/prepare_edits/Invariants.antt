@@ -1,7 +1,5 @@
 use Prim.Native.Nat.{◌≤◌, ◌-◌}
-use native.Mathlib.Omega.{arith}
-use borrow.Author.Rules.{rules}
-use Rattle.moves.proofs.Moving.{Prepared, effects_none, effects_next, effects_end}
+use Rattle.moves.proofs.Moving.{Prepared}
 use Rattle.moves.proofs.prepare_edits.Given as goal
 
 abbrev pub invariant-loop-j : goal.invariant-loop-j

@@ -1,6 +1,5 @@
 use Rattle.table.specs.Sheet.{sheet_in}
 use Rattle.moves.proofs.Moving.{fated_removed, fated_kept, fated_sourced}
-use borrow.Author.Rules.{rules}
 use Rattle.moves.proofs.record_fate.Goals as goal
 
 pub returns-in-Removed : goal.returns-in-Removed

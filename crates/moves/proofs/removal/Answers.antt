@@ -1,6 +1,5 @@
 use Rattle.table.specs.Sheet.{sheet_in}
 use Rattle.moves.proofs.Deciding.{removal_slot, removal_remat, removal_reload, removal_move}
-use borrow.Author.Rules.{rules}
 use Rattle.moves.proofs.removal.Goals as goal
 
 pub returns-in-Slot : goal.returns-in-Slot

@@ -1,5 +1,4 @@
 use Rattle.moves.proofs.Moving.{rewrite_kept, rewrite_removed, rewrite_sourced}
-use borrow.Author.Rules.{rules}
 use Rattle.moves.proofs.rewrite.Goals as goal
 
 pub returns-in-Kept : goal.returns-in-Kept

@@ -1,6 +1,5 @@
 use Rattle.table.specs.Sheet.{sheet_in}
 use Rattle.moves.proofs.Moving.{settled_by}
-use borrow.Author.Rules.{rules}
 use Rattle.moves.proofs.settle.Goals as goal
 
 pub returns : goal.returns

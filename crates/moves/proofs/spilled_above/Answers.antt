@@ -1,6 +1,5 @@
 use Rattle.table.specs.Sheet.{sheet_in}
 use Rattle.moves.proofs.Deciding.{never_spilled, spilled_home, spilled_away}
-use borrow.Author.Rules.{rules}
 use Rattle.moves.proofs.spilled_above.Goals as goal
 
 pub returns-then-a-eq-NONE : goal.returns-then-a-eq-NONE

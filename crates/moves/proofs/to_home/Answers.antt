@@ -1,6 +1,5 @@
 use Rattle.table.specs.Sheet.{sheet_in}
 use Rattle.moves.proofs.Deciding.{home_reg, home_slot}
-use borrow.Author.Rules.{rules}
 use Rattle.moves.proofs.to_home.Goals as goal
 
 pub returns-in-Reg : goal.returns-in-Reg

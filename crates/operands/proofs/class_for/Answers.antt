@@ -1,5 +1,4 @@
 use Rattle.operands.proofs.Finding.{for_class, for_fixed, for_reuse}
-use borrow.Author.Rules.{rules}
 use Rattle.operands.proofs.class_for.Goals as goal
 
 pub returns-in-Class : goal.returns-in-Class

@@ -1,6 +1,5 @@
 use Rattle.operands.specs.Operands.{class_found}
 use Rattle.rules.specs.Accept.{class_of}
-use borrow.Author.Rules.{rules}
 use Rattle.operands.proofs.class_of.Goals as goal
 
 pub returns-in-Class : goal.returns-in-Class

@@ -1,5 +1,4 @@
 use Rattle.operands.proofs.Fields.{constraint_is}
-use borrow.Author.Rules.{rules}
 use Rattle.operands.proofs.constraint_at.Goals as goal
 
 pub returns : goal.returns

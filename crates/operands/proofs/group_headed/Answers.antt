@@ -1,6 +1,4 @@
-use Prim.Native.Nat.{◌-◌}
-use Rattle.operands.proofs.Heading.{Left, head_start, head_found, head_next, head_none}
-use borrow.Author.Rules.{rules}
+use Rattle.operands.proofs.Heading.{head_start, head_found, head_next, head_none}
 use Rattle.operands.proofs.group_headed.Goals as goal
 
 pub loop-g-init : goal.loop-g-init

@@ -1,6 +1,5 @@
 use Prim.Native.Nat.{◌-◌}
-use Rattle.operands.proofs.Heading.{Left, head_start, head_found, head_next, head_none}
-use borrow.Author.Rules.{rules}
+use Rattle.operands.proofs.Heading.{Left}
 use Rattle.operands.proofs.group_headed.Given as goal
 
 abbrev pub invariant-loop-g : goal.invariant-loop-g

@@ -1,5 +1,4 @@
 use Rattle.operands.proofs.Heading.{other_class, of_class}
-use borrow.Author.Rules.{rules}
 use Rattle.operands.proofs.headed_by.Goals as goal
 
 pub returns-then-read_u32-c : goal.returns-then-read_u32-c

@@ -1,5 +1,4 @@
 use Rattle.operands.proofs.Fields.{kind_is}
-use borrow.Author.Rules.{rules}
 use Rattle.operands.proofs.kind_at.Goals as goal
 
 pub returns : goal.returns

@@ -1,5 +1,4 @@
 use Rattle.operands.proofs.Finding.{operand_none, operand_some, operand_back}
-use borrow.Author.Rules.{rules}
 use Rattle.operands.proofs.operand.Goals as goal
 
 pub returns-then-rows : goal.returns-then-rows

@@ -1,5 +1,4 @@
 use Rattle.operands.proofs.Fields.{place_is}
-use borrow.Author.Rules.{rules}
 use Rattle.operands.proofs.place_at.Goals as goal
 
 pub returns : goal.returns

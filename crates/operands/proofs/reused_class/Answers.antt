@@ -1,5 +1,4 @@
 use Rattle.operands.proofs.Finding.{reused_none, reused_some}
-use borrow.Author.Rules.{rules}
 use Rattle.operands.proofs.reused_class.Goals as goal
 
 pub returns-in_default : goal.returns-in_default

@@ -1,11 +1,6 @@
-use mathlib.Core.Path.{◌≡◌, refl, ◌∙◌}
-use Prim.Native.Nat.{◌-◌}
-use native.Mathlib.Omega.{arith}
-use borrow.Author.Rules.{rules}
-use lib.ListN.{length, drop}
-use Rattle.laws.specs.Fold.{run}
+use mathlib.Core.Path.{refl, ◌∙◌}
 use Rattle.laws.proofs.Lists.{run_again, run_done}
-use Rattle.dead_spill_elimination.specs.Worklist.{give, spread}
+use Rattle.dead_spill_elimination.specs.Worklist.{spread}
 use Rattle.dead_spill_elimination.proofs.ends.hand_back.Goals as goal
 
 pub loop-i-init : goal.loop-i-init

@@ -1,11 +1,8 @@
-use mathlib.Core.Path.{◌≡◌, refl, ◌∙◌}
+use mathlib.Core.Path.{◌≡◌}
 use Prim.Native.Nat.{◌-◌}
-use native.Mathlib.Omega.{arith}
-use borrow.Author.Rules.{rules}
 use lib.ListN.{length, drop}
 use Rattle.laws.specs.Fold.{run}
-use Rattle.laws.proofs.Lists.{run_again, run_done}
-use Rattle.dead_spill_elimination.specs.Worklist.{give, spread}
+use Rattle.dead_spill_elimination.specs.Worklist.{give}
 use Rattle.dead_spill_elimination.proofs.ends.hand_back.Given as goal
 
 abbrev pub invariant-loop-i : goal.invariant-loop-i

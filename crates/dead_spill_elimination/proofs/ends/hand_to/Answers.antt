@@ -1,6 +1,5 @@
 use mathlib.Core.Path.{refl}
 use Rattle.dead_spill_elimination.proofs.Given.{give_same, give_new}
-use borrow.Author.Rules.{rules}
 use Rattle.dead_spill_elimination.proofs.ends.hand_to.Goals as goal
 
 pub returns-then-new-old : goal.returns-then-new-old

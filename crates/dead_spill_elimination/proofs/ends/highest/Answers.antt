@@ -1,9 +1,8 @@
-use mathlib.Core.Path.{◌≡◌, subst}
+use mathlib.Core.Path.{subst}
 use mathlib.Core.Logic.{⊎_elim}
-use Prim.Native.Nat.{ℕ, ◌-◌, ◌≤◌, ◌<◌}
+use Prim.Native.Nat.{ℕ, ◌-◌, ◌≤◌}
 use native.Mathlib.Nat.{eq-or-lt_of_le}
 use native.Mathlib.Omega.{arith}
-use lib.ListN.{length, get_or}
 use Rattle.dead_spill_elimination.proofs.ends.highest.Goals as goal
 
 from_less : (P : ℕ → Type 0) (i : ℕ) → ((k : ℕ) → i ≤ k → P k) → P (i - 1) → (k : ℕ) → i - 1 ≤ k → P k

@@ -1,12 +1,8 @@
-use mathlib.Core.Path.{◌≡◌, refl, sym, ◌∙◌}
-use Prim.Native.Nat.{ℕ, ◌-◌, ◌^◌, ◌<◌}
+use mathlib.Core.Path.{refl, sym, ◌∙◌}
+use Prim.Native.Nat.{◌-◌, ◌<◌}
 use native.Mathlib.Omega.{arith}
-use borrow.Author.Rules.{rules}
-use lib.ListN.{length, get_or}
-use Rattle.rules.specs.Function.{Func}
-use Rattle.dead_spill_elimination.specs.Worklist.{Facts}
-use Rattle.dead_spill_elimination.proofs.Sums.{weight}
-use Rattle.dead_spill_elimination.proofs.Settling.{Good, Inv, good_turn, less_turn, inv_turn, inv_first, inv_last}
+use lib.ListN.{length}
+use Rattle.dead_spill_elimination.proofs.Settling.{good_turn, less_turn, inv_turn, inv_first, inv_last}
 use Rattle.dead_spill_elimination.proofs.ends.settle.Goals as goal
 
 pub loop-h-init : goal.loop-h-init

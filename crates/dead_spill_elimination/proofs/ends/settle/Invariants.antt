@@ -1,12 +1,9 @@
-use mathlib.Core.Path.{◌≡◌, refl, sym, ◌∙◌}
-use Prim.Native.Nat.{ℕ, ◌-◌, ◌^◌, ◌<◌}
-use native.Mathlib.Omega.{arith}
-use borrow.Author.Rules.{rules}
-use lib.ListN.{length, get_or}
+use Prim.Native.Nat.{◌^◌}
+use lib.ListN.{length}
 use Rattle.rules.specs.Function.{Func}
 use Rattle.dead_spill_elimination.specs.Worklist.{Facts}
 use Rattle.dead_spill_elimination.proofs.Sums.{weight}
-use Rattle.dead_spill_elimination.proofs.Settling.{Good, Inv, good_turn, less_turn, inv_turn, inv_first, inv_last}
+use Rattle.dead_spill_elimination.proofs.Settling.{Good, Inv}
 use Rattle.dead_spill_elimination.proofs.ends.settle.Given as goal
 
 abbrev pub invariant-loop-h : goal.invariant-loop-h

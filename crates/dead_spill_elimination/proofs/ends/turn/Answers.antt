@@ -1,6 +1,5 @@
 use native.Mathlib.Omega.{arith}
 use Rattle.dead_spill_elimination.proofs.Settling.{turned}
-use borrow.Author.Rules.{rules}
 use Rattle.dead_spill_elimination.proofs.ends.turn.Goals as goal
 
 pub returns : goal.returns

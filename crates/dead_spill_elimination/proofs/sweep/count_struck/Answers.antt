@@ -1,6 +1,5 @@
 use mathlib.Core.Path.{refl}
 use Rattle.dead_spill_elimination.proofs.Counting.{counted_as}
-use borrow.Author.Rules.{rules}
 use Rattle.dead_spill_elimination.proofs.sweep.count_struck.Goals as goal
 
 pub returns-in-Move : goal.returns-in-Move

@@ -1,6 +1,5 @@
 use mathlib.Core.Path.{refl}
 use Rattle.dead_spill_elimination.proofs.Striking.{struck_dead, struck_kept}
-use borrow.Author.Rules.{rules}
 use Rattle.dead_spill_elimination.proofs.sweep.strike.Goals as goal
 
 pub returns-then-is_dead : goal.returns-then-is_dead

@@ -1,9 +1,6 @@
 use mathlib.Core.Path.{refl}
-use Prim.Native.Nat.{◌-◌}
 use native.Mathlib.Omega.{arith}
-use borrow.Author.Rules.{rules}
-use lib.ListN.{length}
-use Rattle.dead_spill_elimination.proofs.Overall.{Overall, all_first, all_next, all_done}
+use Rattle.dead_spill_elimination.proofs.Overall.{all_first, all_next, all_done}
 use Rattle.dead_spill_elimination.proofs.sweep.strike_all.Goals as goal
 
 pub loop-b-init : goal.loop-b-init

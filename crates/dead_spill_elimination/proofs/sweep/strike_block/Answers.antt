@@ -1,5 +1,4 @@
-use native.Mathlib.Omega.{arith}
-use Rattle.dead_spill_elimination.proofs.Striking.{Block, block_first, block_next, block_last}
+use Rattle.dead_spill_elimination.proofs.Striking.{block_first, block_next, block_last}
 use Rattle.dead_spill_elimination.proofs.sweep.strike_block.Goals as goal
 
 pub loop-i-init : goal.loop-i-init

@@ -1,5 +1,4 @@
-use native.Mathlib.Omega.{arith}
-use Rattle.dead_spill_elimination.proofs.Striking.{Block, block_first, block_next, block_last}
+use Rattle.dead_spill_elimination.proofs.Striking.{Block}
 use Rattle.dead_spill_elimination.proofs.sweep.strike_block.Given as goal
 
 abbrev pub invariant-loop-i : goal.invariant-loop-i

@@ -1,5 +1,4 @@
-use native.Mathlib.Omega.{arith}
-use Rattle.dead_spill_elimination.proofs.Striking.{Edits, edits_first, edits_next, edits_done}
+use Rattle.dead_spill_elimination.proofs.Striking.{edits_first, edits_next, edits_done}
 use Rattle.dead_spill_elimination.proofs.sweep.strike_edits.Goals as goal
 
 pub loop-n-init : goal.loop-n-init

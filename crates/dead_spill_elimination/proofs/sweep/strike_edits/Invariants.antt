@@ -1,5 +1,4 @@
-use native.Mathlib.Omega.{arith}
-use Rattle.dead_spill_elimination.proofs.Striking.{Edits, edits_first, edits_next, edits_done}
+use Rattle.dead_spill_elimination.proofs.Striking.{Edits}
 use Rattle.dead_spill_elimination.proofs.sweep.strike_edits.Given as goal
 
 abbrev pub invariant-loop-n : goal.invariant-loop-n

@@ -1,5 +1,4 @@
 use Rattle.dead_spill_elimination.proofs.Striking.{inst_done}
-use borrow.Author.Rules.{rules}
 use Rattle.dead_spill_elimination.proofs.sweep.strike_inst.Goals as goal
 
 pub returns : goal.returns

@@ -1,7 +1,6 @@
 use mathlib.Core.Path.{refl, sym, ◌∙◌}
 use native.Mathlib.Omega.{arith}
 use Rattle.dead_spill_elimination.proofs.Whole.{filled_length, filled_at, filled_zeros, blocks_are_few, edits_are_few, edits_counted}
-use borrow.Author.Rules.{rules}
 use Rattle.table.proofs.Sheets.{blocks_counted}
 use Rattle.dead_spill_elimination.proofs.sweep.sweep_edits.Goals as goal
 

@@ -1,6 +1,5 @@
 use mathlib.Core.Path.{◌∙◌}
 use Rattle.dead_spill_elimination.proofs.Whole.{swept}
-use borrow.Author.Rules.{rules}
 use Rattle.dead_spill_elimination.proofs.sweep.sweep_in.Goals as goal
 
 pub returns : goal.returns

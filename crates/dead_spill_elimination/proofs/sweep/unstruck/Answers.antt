@@ -1,6 +1,5 @@
 use mathlib.Core.Path.{sym, ◌∙◌}
 use Rattle.marks.proofs.Marking.{marked_read, unmarked_read}
-use borrow.Author.Rules.{rules}
 use Rattle.dead_spill_elimination.proofs.sweep.unstruck.Goals as goal
 
 pub returns-then-read_u8-ne0 : goal.returns-then-read_u8-ne0

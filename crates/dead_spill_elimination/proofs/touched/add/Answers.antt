@@ -1,4 +1,3 @@
-use borrow.Author.Rules.{rules}
 use Rattle.dead_spill_elimination.proofs.Touching.{added_is}
 use Rattle.dead_spill_elimination.proofs.touched.add.Goals as goal
 

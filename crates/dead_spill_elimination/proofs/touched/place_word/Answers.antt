@@ -1,5 +1,4 @@
 use mathlib.Core.Path.{sym, ap}
-use borrow.Author.Rules.{rules}
 use Rattle.dead_spill_elimination.specs.Touched.{place_word}
 use Rattle.dead_spill_elimination.proofs.touched.place_word.Goals as goal
 

@@ -1,4 +1,3 @@
-use borrow.Author.Rules.{rules}
 use Rattle.dead_spill_elimination.proofs.Touching.{touch_use, touch_def, touch_none}
 use Rattle.dead_spill_elimination.proofs.touched.touch.Goals as goal
 

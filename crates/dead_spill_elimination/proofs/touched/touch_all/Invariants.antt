@@ -1,10 +1,7 @@
-use mathlib.Core.Path.{◌≡◌, refl, ◌∙◌}
+use mathlib.Core.Path.{◌≡◌}
 use Prim.Native.Nat.{◌≤◌, ◌-◌}
-use native.Mathlib.Omega.{arith}
 use lib.ListN.{length}
-use borrow.Author.Rules.{rules}
 use Rattle.dead_spill_elimination.specs.Touched.{touched_to}
-use Rattle.dead_spill_elimination.proofs.Touching.{touched_first, touched_more, touched_last}
 use Rattle.dead_spill_elimination.proofs.touched.touch_all.Given as goal
 
 abbrev pub invariant-loop-n : goal.invariant-loop-n

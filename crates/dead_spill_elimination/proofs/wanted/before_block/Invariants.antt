@@ -1,7 +1,5 @@
-use native.Mathlib.Omega.{arith}
 use Rattle.dead_spill_elimination.specs.Slots.{step_back, Lows}
-use Rattle.dead_spill_elimination.proofs.Down.{Going, going_first, going_next}
-use Rattle.dead_spill_elimination.proofs.Blocks.{block_step, block_done}
+use Rattle.dead_spill_elimination.proofs.Down.{Going}
 use Rattle.dead_spill_elimination.proofs.wanted.before_block.Given as goal
 
 abbrev pub invariant-loop-i : goal.invariant-loop-i

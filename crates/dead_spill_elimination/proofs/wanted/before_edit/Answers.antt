@@ -1,5 +1,4 @@
 use Rattle.dead_spill_elimination.proofs.Members.{before_move, before_load, before_remat, before_espill, before_ereload, before_misplaced, before_none}
-use borrow.Author.Rules.{rules}
 use Rattle.dead_spill_elimination.proofs.wanted.before_edit.Goals as goal
 
 pub returns-in-Slot : goal.returns-in-Slot

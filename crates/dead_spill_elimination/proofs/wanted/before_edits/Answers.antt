@@ -1,12 +1,6 @@
 use Rattle.dead_spill_elimination.proofs.Blocks.{edit_step}
-use Prim.Native.Nat.{ℕ}
-use native.Mathlib.Omega.{arith}
-use borrow.Author.Rules.{rules}
-use Rattle.rules.specs.Function.{edit, In}
-use Rattle.rules.specs.Sweep.{wanted_before}
-use Rattle.table.specs.Edits.{edit_in}
-use Rattle.dead_spill_elimination.specs.Slots.{LowReads, numbers, edits_back}
-use Rattle.dead_spill_elimination.proofs.Down.{Going, going_first, going_next, going_done, in_numbers}
+use Rattle.dead_spill_elimination.specs.Slots.{edits_back}
+use Rattle.dead_spill_elimination.proofs.Down.{going_first, going_next, going_done, in_numbers}
 use Rattle.dead_spill_elimination.proofs.wanted.before_edits.Goals as goal
 
 pub loop-n-init : goal.loop-n-init

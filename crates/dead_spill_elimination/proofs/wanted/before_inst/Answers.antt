@@ -1,5 +1,4 @@
 use native.Mathlib.Omega.{arith}
-use borrow.Author.Rules.{rules}
 use Rattle.dead_spill_elimination.proofs.Blocks.{inst_step}
 use Rattle.dead_spill_elimination.proofs.wanted.before_inst.Goals as goal
 

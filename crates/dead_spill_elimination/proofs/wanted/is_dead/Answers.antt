@@ -1,6 +1,5 @@
 use mathlib.Core.Path.{sym, ◌∙◌, ap}
 use Rattle.dead_spill_elimination.specs.Slots.{dead_in}
-use borrow.Author.Rules.{rules}
 use Rattle.dead_spill_elimination.proofs.wanted.is_dead.Goals as goal
 
 pub returns-in-Move : goal.returns-in-Move

@@ -1,6 +1,5 @@
 use mathlib.Core.Path.{sym, ◌∙◌}
 use Rattle.dead_spill_elimination.proofs.Members.{moved_hit, moved_miss}
-use borrow.Author.Rules.{rules}
 use Rattle.dead_spill_elimination.proofs.wanted.moved.Goals as goal
 
 pub returns-then-contains : goal.returns-then-contains

@@ -1,7 +1,6 @@
 use mathlib.Core.Bool.{not}
 use Rattle.dead_spill_elimination.proofs.Members.{place_lacks}
 use mathlib.Core.Path.{sym, ◌∙◌, ap}
-use borrow.Author.Rules.{rules}
 use Rattle.dead_spill_elimination.proofs.wanted.unwanted.Goals as goal
 
 pub returns-in-Slot : goal.returns-in-Slot

@@ -1,5 +1,4 @@
 use Rattle.dead_spill_elimination.proofs.Members.{place_with, reg_with}
-use borrow.Author.Rules.{rules}
 use Rattle.dead_spill_elimination.proofs.wanted.with_place.Goals as goal
 
 pub returns-in-Slot : goal.returns-in-Slot

@@ -1,5 +1,4 @@
 use Rattle.dead_spill_elimination.proofs.Members.{place_without, reg_without}
-use borrow.Author.Rules.{rules}
 use Rattle.dead_spill_elimination.proofs.wanted.without_place.Goals as goal
 
 pub returns-in-Slot : goal.returns-in-Slot

@@ -1,5 +1,4 @@
 use native.Mathlib.Omega.{arith}
-use borrow.Author.Rules.{rules}
 use Rattle.table.proofs.Counted.{counted_up}
 use Rattle.table.proofs.counts.tally.Goals as goal
 

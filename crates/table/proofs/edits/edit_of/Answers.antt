@@ -1,8 +1,4 @@
 use Rattle.table.proofs.Stored.{edit_move, edit_remat, edit_espill, edit_ereload, edit_none}
-use borrow.Author.Tests.{eq-eqb, ne_eqb}
-use Rattle.rules.specs.Sheet.{edit_of}
-use Rattle.rules.specs.Cells.{word}
-use borrow.Author.Rules.{rules}
 use Rattle.table.proofs.edits.edit_of.Goals as goal
 
 pub returns-in-100021 : goal.returns-in-100021

@@ -1,5 +1,4 @@
 use Rattle.rules.specs.Sheet.{ereload_of}
-use borrow.Author.Rules.{rules}
 use Rattle.table.proofs.edits.ereload_of.Goals as goal
 
 pub returns-in-Slot-from : goal.returns-in-Slot-from

@@ -1,5 +1,4 @@
 use Rattle.rules.specs.Sheet.{espill_of}
-use borrow.Author.Rules.{rules}
 use Rattle.table.proofs.edits.espill_of.Goals as goal
 
 pub returns-in-Reg-from : goal.returns-in-Reg-from

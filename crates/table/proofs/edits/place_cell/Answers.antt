@@ -1,8 +1,4 @@
 use Rattle.table.proofs.Stored.{small_reg, small_slot}
-use mathlib.Core.Path.{◌∙◌, sym, ap}
-use Rattle.rules.specs.Answer.{place_cell}
-use Rattle.table.specs.Edits.{SmallPlace}
-use borrow.Author.Rules.{rules}
 use Rattle.table.proofs.edits.place_cell.Goals as goal
 
 pub returns-in-Reg : goal.returns-in-Reg

@@ -1,5 +1,4 @@
 use Rattle.table.specs.Edits.{edit_in}
-use borrow.Author.Rules.{rules}
 use Rattle.table.proofs.edits.read_edit.Goals as goal
 
 pub returns : goal.returns

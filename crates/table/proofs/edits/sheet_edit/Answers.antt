@@ -1,5 +1,4 @@
 use Rattle.table.specs.Edits.{edit_at_row}
-use borrow.Author.Rules.{rules}
 use Rattle.table.proofs.edits.sheet_edit.Goals as goal
 
 pub returns : goal.returns

@@ -1,5 +1,4 @@
 use Rattle.table.proofs.Stored.{stored_move, stored_remat, stored_by, stored_misplaced, stored_none}
-use borrow.Author.Rules.{rules}
 use Rattle.table.proofs.edits.store_edit.Goals as goal
 
 pub returns-in-Move : goal.returns-in-Move

@@ -1,4 +1,3 @@
-use borrow.Author.Rules.{rules}
 use Rattle.table.proofs.Stored.{stored_espill}
 use Rattle.table.proofs.edits.store_espill.Goals as goal
 

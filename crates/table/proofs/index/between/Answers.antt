@@ -1,4 +1,3 @@
-use borrow.Author.Rules.{rules}
 use Rattle.table.proofs.Ranges.{range_hit, range_miss}
 use Rattle.table.proofs.index.between.Goals as goal
 

@@ -1,4 +1,3 @@
-use borrow.Author.Rules.{rules}
 use Rattle.table.proofs.Building.{builds}
 use Rattle.table.proofs.index.build.Goals as goal
 

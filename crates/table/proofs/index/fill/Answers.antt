@@ -1,9 +1,6 @@
-use borrow.Author.Rules.{rules}
-use mathlib.Core.Path.{◌≡◌, refl, ◌∙◌}
+use mathlib.Core.Path.{refl, ◌∙◌}
 use native.Mathlib.Omega.{arith}
-use Prim.Native.Nat.{◌+◌, ◌-◌, ◌≤◌}
-use lib.ListN.{length}
-use Rattle.table.proofs.Filling.{Going, going_start, going_turn, going_end}
+use Rattle.table.proofs.Filling.{going_start, going_turn, going_end}
 use Rattle.table.proofs.index.fill.Goals as goal
 
 pub returns-then-t-lt-CELLS : goal.returns-then-t-lt-CELLS

@@ -1,9 +1,7 @@
-use borrow.Author.Rules.{rules}
-use mathlib.Core.Path.{◌≡◌, refl, ◌∙◌}
-use native.Mathlib.Omega.{arith}
+use mathlib.Core.Path.{◌≡◌}
 use Prim.Native.Nat.{◌+◌, ◌-◌, ◌≤◌}
 use lib.ListN.{length}
-use Rattle.table.proofs.Filling.{Going, going_start, going_turn, going_end}
+use Rattle.table.proofs.Filling.{Going}
 use Rattle.table.proofs.index.fill.Given as goal
 
 abbrev pub invariant-loop-n : goal.invariant-loop-n

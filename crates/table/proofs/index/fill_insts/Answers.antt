@@ -1,9 +1,7 @@
-use borrow.Author.Rules.{rules}
-use mathlib.Core.Path.{◌≡◌, refl, ◌∙◌}
+use mathlib.Core.Path.{refl, ◌∙◌}
 use native.Mathlib.Omega.{arith}
-use Prim.Native.Nat.{◌-◌, ◌≤◌, ◌<◌}
-use lib.ListN.{length, length-set}
-use Rattle.table.proofs.Filling.{Summing, summing_start, summing_next, summed}
+use lib.ListN.{length-set}
+use Rattle.table.proofs.Filling.{summing_start, summing_next, summed}
 use Rattle.table.proofs.index.fill_insts.Goals as goal
 
 pub returns-then-t-lt-CELLS : goal.returns-then-t-lt-CELLS
@@ -17,11 +15,11 @@ bounds-t-b c = omega (arith, c.loop-b.invariant.0, c.least-blocks.ensures)
 
 pub loop-b-preserved : goal.loop-b-preserved
 loop-b-preserved c = let i = c.loop-b.invariant in (
-      length-set c.loop-b.t _ _ ∙ i.0,
-      omega arith,
-      omega arith,
-      summing_next _ _ _ _ _ _ _ (omega (arith, c.least-blocks.ensures)) refl c.row_of.ensures c.read_u32-n.ensures i.3,
-    )
+  length-set c.loop-b.t _ _ ∙ i.0,
+  omega arith,
+  omega arith,
+  summing_next _ _ _ _ _ _ _ (omega (arith, c.least-blocks.ensures)) refl c.row_of.ensures c.read_u32-n.ensures i.3,
+)
 
 pub stretch-requires : goal.stretch-requires
 stretch-requires c = omega (arith, c.loop-b.invariant.0)

@@ -1,9 +1,7 @@
-use borrow.Author.Rules.{rules}
-use mathlib.Core.Path.{◌≡◌, refl, ◌∙◌}
-use native.Mathlib.Omega.{arith}
+use mathlib.Core.Path.{◌≡◌}
 use Prim.Native.Nat.{◌-◌, ◌≤◌, ◌<◌}
-use lib.ListN.{length, length-set}
-use Rattle.table.proofs.Filling.{Summing, summing_start, summing_next, summed}
+use lib.ListN.{length}
+use Rattle.table.proofs.Filling.{Summing}
 use Rattle.table.proofs.index.fill_insts.Given as goal
 
 abbrev pub invariant-loop-b : goal.invariant-loop-b

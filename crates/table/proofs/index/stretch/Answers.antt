@@ -1,10 +1,6 @@
-use borrow.Author.Rules.{rules}
-use mathlib.Core.Path.{◌≡◌, refl, sym, ◌∙◌}
+use mathlib.Core.Path.{refl, sym, ◌∙◌}
 use native.Mathlib.Omega.{arith}
-use Prim.Native.Nat.{◌-◌}
-use lib.ListN.{length, set, length-set}
-use Rattle.laws.specs.Fold.{run}
-use Rattle.laws.specs.Lists.{from}
+use lib.ListN.{length-set}
 use Rattle.table.proofs.Filling.{stretch_turn, stretch_end}
 use Rattle.table.proofs.index.stretch.Goals as goal
 

@@ -1,11 +1,8 @@
-use borrow.Author.Rules.{rules}
-use mathlib.Core.Path.{◌≡◌, refl, sym, ◌∙◌}
-use native.Mathlib.Omega.{arith}
+use mathlib.Core.Path.{◌≡◌}
 use Prim.Native.Nat.{◌-◌}
-use lib.ListN.{length, set, length-set}
+use lib.ListN.{length, set}
 use Rattle.laws.specs.Fold.{run}
 use Rattle.laws.specs.Lists.{from}
-use Rattle.table.proofs.Filling.{stretch_turn, stretch_end}
 use Rattle.table.proofs.index.stretch.Given as goal
 
 abbrev pub invariant-loop-x : goal.invariant-loop-x

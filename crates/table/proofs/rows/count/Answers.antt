@@ -1,5 +1,4 @@
 use native.Mathlib.Omega.{arith}
-use borrow.Author.Rules.{rules}
 use Rattle.table.proofs.rows.count.Goals as goal
 
 pub returns-then-from-to : goal.returns-then-from-to

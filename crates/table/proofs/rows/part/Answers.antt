@@ -2,7 +2,6 @@ use Prim.Native.Nat.{◌-◌}
 use native.Mathlib.Nat.{le_refl}
 use native.Mathlib.Omega.{arith}
 use Rattle.table.proofs.Parts.{same_rest, none_past, none_back}
-use borrow.Author.Rules.{rules}
 use Rattle.table.proofs.rows.part.Goals as goal
 
 pub returns-then-from-t : goal.returns-then-from-t

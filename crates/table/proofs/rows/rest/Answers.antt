@@ -1,7 +1,6 @@
 use native.Mathlib.Nat.{le_refl}
 use native.Mathlib.Omega.{arith}
 use Rattle.table.proofs.Parts.{take_rest, drop_past}
-use borrow.Author.Rules.{rules}
 use Rattle.table.proofs.rows.rest.Goals as goal
 
 pub returns-then-k-r : goal.returns-then-k-r

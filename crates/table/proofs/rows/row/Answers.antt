@@ -1,6 +1,5 @@
 use mathlib.Core.Path.{◌∙◌}
 use Rattle.table.proofs.Parts.{row_part}
-use borrow.Author.Rules.{rules}
 use Rattle.table.proofs.rows.row.Goals as goal
 
 pub returns : goal.returns

@@ -1,7 +1,6 @@
 use mathlib.Core.Path.{◌∙◌}
 use native.Mathlib.Omega.{arith}
 use Rattle.table.proofs.Parts.{kind_hit, kind_miss}
-use borrow.Author.Rules.{rules}
 use Rattle.table.proofs.rows.row_of.Goals as goal
 
 pub returns-then-n-to : goal.returns-then-n-to

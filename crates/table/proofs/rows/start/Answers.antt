@@ -1,7 +1,6 @@
 use mathlib.Core.Path.{◌∙◌}
 use native.Mathlib.Omega.{arith}
 use Rattle.table.proofs.Parts.{start_here, start_past}
-use borrow.Author.Rules.{rules}
 use Rattle.table.proofs.rows.start.Goals as goal
 
 pub returns-then-i-t : goal.returns-then-i-t

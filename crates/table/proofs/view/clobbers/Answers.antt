@@ -1,4 +1,3 @@
-use borrow.Author.Rules.{rules}
 use Rattle.table.proofs.Lookups.{clobbers_by}
 use Rattle.table.proofs.view.clobbers.Goals as goal
 

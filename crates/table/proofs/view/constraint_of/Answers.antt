@@ -1,6 +1,5 @@
 use borrow.Author.Tests.{lt-ltb, le-ltb}
 use Rattle.rules.specs.Sheet.{constraint_of}
-use borrow.Author.Rules.{rules}
 use Rattle.table.proofs.view.constraint_of.Goals as goal
 
 pub returns-then-c-lt-FIXED : goal.returns-then-c-lt-FIXED

@@ -1,7 +1,6 @@
 use mathlib.Core.Path.{◌∙◌, ap}
 use Rattle.rules.specs.Sheet.{field}
 use Rattle.table.proofs.Views.{class_is}
-use borrow.Author.Rules.{rules}
 use Rattle.table.proofs.view.group_class.Goals as goal
 
 pub returns : goal.returns

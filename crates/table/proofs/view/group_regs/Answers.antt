@@ -1,7 +1,6 @@
 use mathlib.Core.Path.{◌∙◌, ap}
 use lib.ListN.{drop}
 use Rattle.table.proofs.Views.{group_regs_are}
-use borrow.Author.Rules.{rules}
 use Rattle.table.proofs.view.group_regs.Goals as goal
 
 pub returns : goal.returns

@@ -1,5 +1,4 @@
 use mathlib.Core.Path.{◌∙◌, ap}
-use borrow.Author.Rules.{rules}
 use Rattle.rules.specs.Sheet.{field, maybe}
 use Rattle.table.specs.View.{slot_found}
 use Rattle.table.proofs.Views.{home_past, home_is, slot_dash, slot_some}

@@ -1,5 +1,4 @@
 use mathlib.Core.Path.{◌∙◌, ap}
-use borrow.Author.Rules.{rules}
 use Rattle.rules.specs.Sheet.{field, maybe}
 use Rattle.table.specs.View.{block_found}
 use Rattle.table.proofs.Views.{idom_past, idom_is, block_dash, block_some}

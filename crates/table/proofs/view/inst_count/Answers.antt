@@ -1,7 +1,6 @@
 use mathlib.Core.Path.{◌∙◌, ap}
 use Rattle.rules.specs.Sheet.{field}
 use Rattle.table.proofs.Views.{instructions_are}
-use borrow.Author.Rules.{rules}
 use Rattle.table.proofs.view.inst_count.Goals as goal
 
 pub returns : goal.returns

@@ -1,7 +1,6 @@
 use mathlib.Core.Path.{◌∙◌, ap}
 use Rattle.rules.specs.Sheet.{field, flag_of}
 use Rattle.table.proofs.Views.{entry_is}
-use borrow.Author.Rules.{rules}
 use Rattle.table.proofs.view.is_entry.Goals as goal
 
 pub returns : goal.returns

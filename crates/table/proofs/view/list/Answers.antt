@@ -1,4 +1,3 @@
-use borrow.Author.Rules.{rules}
 use Rattle.table.proofs.Ranges.{list_hit, list_miss}
 use Rattle.table.proofs.view.list.Goals as goal
 

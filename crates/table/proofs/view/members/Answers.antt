@@ -1,7 +1,6 @@
 use mathlib.Core.Path.{◌∙◌, ap}
 use lib.ListN.{drop}
 use Rattle.table.proofs.Views.{members_are}
-use borrow.Author.Rules.{rules}
 use Rattle.table.proofs.view.members.Goals as goal
 
 pub returns : goal.returns

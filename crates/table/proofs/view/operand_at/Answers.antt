@@ -1,4 +1,3 @@
-use borrow.Author.Rules.{rules}
 use Rattle.table.proofs.Views.{operand_is}
 use Rattle.table.proofs.view.operand_at.Goals as goal
 

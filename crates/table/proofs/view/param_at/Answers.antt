@@ -1,4 +1,3 @@
-use borrow.Author.Rules.{rules}
 use Rattle.table.proofs.Views.{param_is}
 use Rattle.table.proofs.view.param_at.Goals as goal
 

@@ -1,6 +1,5 @@
 use borrow.Author.Tests.{lt-ltb, le-ltb}
 use Rattle.rules.specs.Sheet.{place_of}
-use borrow.Author.Rules.{rules}
 use Rattle.table.proofs.view.place_of.Goals as goal
 
 pub returns-then-c-lt-SLOT : goal.returns-then-c-lt-SLOT

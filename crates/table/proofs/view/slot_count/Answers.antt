@@ -1,7 +1,6 @@
 use mathlib.Core.Path.{◌∙◌, ap, sym}
 use Rattle.rules.specs.Sheet.{field}
 use Rattle.table.proofs.Sheets.{slots_are}
-use borrow.Author.Rules.{rules}
 use Rattle.table.proofs.view.slot_count.Goals as goal
 
 pub returns : goal.returns

@@ -1,6 +1,5 @@
 use Prim.Native.Nat.{◌+◌, ◌*◌}
 use mathlib.Core.Path.{ap}
-use borrow.Author.Rules.{rules}
 use Rattle.entity.specs.declared.forms.Told.{Told}
 use Rattle.entity.proofs.forms.Refusal.sum.Goals as goal
 

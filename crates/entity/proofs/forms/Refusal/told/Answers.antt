@@ -1,5 +1,4 @@
 use mathlib.Core.Path.{sym, ap}
-use borrow.Author.Rules.{rules}
 use Rattle.entity.specs.Forms.{told_of}
 use Rattle.entity.proofs.forms.Refusal.told.Goals as goal
 

@@ -1,10 +1,7 @@
 use mathlib.Core.Path.{sym, ap, ◌∙◌}
-use borrow.Author.Rules.{rules}
 use Rattle.laws.proofs.First.{first_map}
 use Rattle.bits.specs.declared.sets.Found.{Found}
-use Rattle.bits.specs.declared.sets.Found.TheVariants as Found
 use Rattle.entity.specs.declared.sets.FoundBlock.{FoundBlock}
-use Rattle.entity.specs.declared.sets.FoundBlock.TheVariants as FoundBlock
 use Rattle.entity.proofs.sets.BlockSet.lowest.Goals as goal
 
 abbrev as_block : Found → FoundBlock

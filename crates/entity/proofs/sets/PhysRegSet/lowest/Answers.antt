@@ -1,10 +1,7 @@
 use mathlib.Core.Path.{sym, ap, ◌∙◌}
-use borrow.Author.Rules.{rules}
 use Rattle.laws.proofs.First.{first_map}
 use Rattle.bits.specs.declared.sets.Found.{Found}
-use Rattle.bits.specs.declared.sets.Found.TheVariants as Found
 use Rattle.entity.specs.declared.sets.FoundReg.{FoundReg}
-use Rattle.entity.specs.declared.sets.FoundReg.TheVariants as FoundReg
 use Rattle.entity.proofs.sets.PhysRegSet.lowest.Goals as goal
 
 abbrev as_reg : Found → FoundReg
