@@ -25,11 +25,9 @@ use Rattle.bits.specs.declared.sets.NumberSet.{NumberSet}
 use Rattle.bits.proofs.Members.{has_set_of, set_of_same}
 use Rattle.entity.specs.Limits.{reg_limit, class_limit}
 use Rattle.entity.specs.declared.forms.Place.{Place}
-use Rattle.entity.specs.declared.forms.Place.TheVariants as Place
 use Rattle.entity.specs.declared.numbers.PhysReg.{PhysReg}
 use Rattle.entity.specs.declared.numbers.SpillSlot.{SpillSlot}
 use Rattle.entity.specs.declared.sets.FoundReg.{FoundReg}
-use Rattle.entity.specs.declared.sets.FoundReg.TheVariants as FoundReg
 use Rattle.rules.specs.Sheet.{Sheet, reg_count, class_row, is_memory}
 use Rattle.rules.specs.Record.{holds}
 use Rattle.rules.specs.Forward.{in_memory, lowest_holding}

@@ -6,7 +6,6 @@ use Rattle.bits.specs.Sets.{made, has}
 use Rattle.bits.specs.declared.sets.NumberSet.{NumberSet}
 use Rattle.entity.specs.Limits.{class_limit}
 use Rattle.entity.specs.declared.sets.FoundReg.{FoundReg}
-use Rattle.entity.specs.declared.sets.FoundReg.TheVariants as FoundReg
 use Rattle.rules.specs.Sheet.{Sheet, reg_count, class_row, is_memory}
 
 -- register r is one of class c; after the last class stand all registers

@@ -1,4 +1,6 @@
 // Which registers hold a value: the lowest non-memory one, of all or of a class.
+#![tactic(auto)]
+
 ghost use Rattle.std.specs.Prelude.{◌≡◌, Bool, false, cond, not, ◌&&◌, ◌||◌, ℕ, ◌≤◌, eqb, leb, ltb, length};
 ghost use Rattle.laws.specs.Fold.{run};
 ghost use Rattle.laws.specs.Lists.{is_in, from};

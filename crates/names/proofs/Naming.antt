@@ -7,12 +7,10 @@ use lib.Dec.{ltb}
 use Rattle.entity.specs.declared.numbers.SpillSlot.{SpillSlot}
 use Rattle.entity.specs.declared.numbers.Block.{Block}
 use Rattle.entity.specs.declared.sets.FoundBlock.{FoundBlock}
-use Rattle.entity.specs.declared.sets.FoundBlock.TheVariants as FoundBlock
 use Rattle.rules.specs.Sheet.{Sheet, ParamRow, OpRow}
 use Rattle.rules.specs.Accept.{block_exists, value_exists, place_exists, subject_exists, constraint_exists}
 use Rattle.table.specs.View.{slot_found, block_found, param_of, operand_of}
 use Rattle.table.specs.declared.view.FoundSlot.{FoundSlot}
-use Rattle.table.specs.declared.view.FoundSlot.TheVariants as FoundSlot
 use Rattle.table.specs.declared.view.Param.{Param}
 use Rattle.table.specs.declared.view.Operand.{Operand}
 use Rattle.names.specs.Steps.{param_named, op_named}

@@ -25,7 +25,6 @@ use Rattle.rules.specs.Record.{Record, with_known, absent, write_unit, hold, sto
 use Rattle.table.specs.View.{slot_found}
 use Rattle.table.proofs.Loops.{all_false_in, all_next_in, all_end_in}
 use Rattle.table.specs.declared.view.FoundSlot.{FoundSlot}
-use Rattle.table.specs.declared.view.FoundSlot.TheVariants as FoundSlot
 use Rattle.record.specs.Layout.{defined_at, held_at, noted_reg_at, noted_value_at, spilled_at, stored_at, unit_reg_at, unit_value_at}
 use Rattle.record.specs.Flat.{section, record_in, unit_reg_in, unit_value_in, held_in, noted_reg_in, noted_value_in, unit_written, reg_holds, slot_holds, defined_by, spilled_by, Long, Becomes}
 use Rattle.record.proofs.Sections.{unit_reg_is, unit_value_is, held_is, noted_reg_is, noted_value_is}

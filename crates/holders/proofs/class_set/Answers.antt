@@ -1,5 +1,4 @@
 use Rattle.holders.proofs.Holding.{taken_is, taken_none}
-use borrow.Author.Rules.{rules}
 use Rattle.holders.proofs.class_set.Goals as goal
 
 pub returns-then-c-le-LIMIT : goal.returns-then-c-le-LIMIT

@@ -1,8 +1,4 @@
-use Prim.Native.Nat.{◌-◌}
-use Rattle.table.specs.Sheet.{sheet_in}
-use Rattle.table.specs.Index.{Ready}
-use Rattle.holders.proofs.Holding.{Filling, fill_all, fill_next, fill_end}
-use borrow.Author.Rules.{rules}
+use Rattle.holders.proofs.Holding.{fill_all, fill_next, fill_end}
 use Rattle.holders.proofs.fill.Goals as goal
 
 pub loop-c-init : goal.loop-c-init

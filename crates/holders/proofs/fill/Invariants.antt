@@ -1,8 +1,7 @@
 use Prim.Native.Nat.{◌-◌}
 use Rattle.table.specs.Sheet.{sheet_in}
 use Rattle.table.specs.Index.{Ready}
-use Rattle.holders.proofs.Holding.{Filling, fill_all, fill_next, fill_end}
-use borrow.Author.Rules.{rules}
+use Rattle.holders.proofs.Holding.{Filling}
 use Rattle.holders.proofs.fill.Given as goal
 
 abbrev pub invariant-loop-c : goal.invariant-loop-c

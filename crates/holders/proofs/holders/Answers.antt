@@ -1,15 +1,7 @@
-use mathlib.Core.Path.{◌≡◌, sym, ap, ◌∙◌}
-use mathlib.Core.Logic.{⊎_elim}
-use mathlib.Core.Bool.{◌&&◌}
-use Prim.Native.Nat.{◌-◌, ◌≤◌}
+use mathlib.Core.Path.{sym, ap, ◌∙◌}
 use native.Mathlib.Omega.{arith}
-use lib.Dec.{ltb}
-use Rattle.bits.specs.Sets.{set_of}
 use Rattle.entity.specs.declared.sets.PhysRegSet.{PhysRegSet}
-use Rattle.rules.specs.Record.{holds}
-use Rattle.record.specs.Flat.{record_in, Long}
 use Rattle.holders.proofs.Holding.{below_none, below_next, below_end, with_yes, with_no}
-use borrow.Author.Rules.{rules}
 use Rattle.holders.proofs.holders.Goals as goal
 use Rattle.holders.proofs.holders.Goals.{then-holds, else-holds}
 
@@ -24,7 +16,7 @@ loop-r-preserved c =
       λ l.
           below_next _ _
           (elim c.if-holds.branch [
-            then-holds w ↦ ap (λ (x : PhysRegSet). x.0) w.s-is ∙ with_yes _ (sym (e l) ∙ w.if-holds.true) w.insert-s.ensures _ (i l)
+            | then-holds w ↦ ap (λ (x : PhysRegSet). x.0) w.s-is ∙ with_yes _ (sym (e l) ∙ w.if-holds.true) w.insert-s.ensures _ (i l)
             | else-holds w ↦ ap (λ (x : PhysRegSet). x.0) w.s-is ∙ with_no _ (sym (e l) ∙ w.if-holds.false) _ (i l)
           ]),
     )

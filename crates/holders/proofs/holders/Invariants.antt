@@ -1,15 +1,10 @@
-use mathlib.Core.Path.{◌≡◌, sym, ap, ◌∙◌}
-use mathlib.Core.Logic.{⊎_elim}
+use mathlib.Core.Path.{◌≡◌}
 use mathlib.Core.Bool.{◌&&◌}
 use Prim.Native.Nat.{◌-◌, ◌≤◌}
-use native.Mathlib.Omega.{arith}
 use lib.Dec.{ltb}
 use Rattle.bits.specs.Sets.{set_of}
-use Rattle.entity.specs.declared.sets.PhysRegSet.{PhysRegSet}
 use Rattle.rules.specs.Record.{holds}
 use Rattle.record.specs.Flat.{record_in, Long}
-use Rattle.holders.proofs.Holding.{below_none, below_next, below_end, with_yes, with_no}
-use borrow.Author.Rules.{rules}
 use Rattle.holders.proofs.holders.Given as goal
 
 abbrev pub invariant-loop-r : goal.invariant-loop-r

@@ -1,5 +1,4 @@
 use Rattle.holders.proofs.Holding.{reg_in, slot_in}
-use borrow.Author.Rules.{rules}
 use Rattle.holders.proofs.in_memory.Goals as goal
 
 pub returns-in-Reg : goal.returns-in-Reg

@@ -1,6 +1,4 @@
 use Rattle.holders.proofs.Holding.{held_nowhere, lowest_is}
-use borrow.Author.Tests.{not-true}
-use borrow.Author.Rules.{rules}
 use Rattle.holders.proofs.lowest_holding.Goals as goal
 
 pub returns-then-not-somewhere : goal.returns-then-not-somewhere

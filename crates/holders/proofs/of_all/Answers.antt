@@ -1,13 +1,5 @@
-use mathlib.Core.Path.{◌≡◌}
-use mathlib.Core.Bool.{not, ◌&&◌}
-use Prim.Native.Nat.{◌-◌, ◌≤◌}
 use native.Mathlib.Omega.{arith}
-use lib.Dec.{ltb}
-use Rattle.bits.specs.Sets.{set_of}
-use Rattle.rules.specs.Sheet.{is_memory}
-use Rattle.table.specs.Sheet.{sheet_in}
 use Rattle.holders.proofs.Holding.{below_none, below_next, below_end}
-use borrow.Author.Rules.{rules}
 use Rattle.holders.proofs.of_all.Goals as goal
 
 pub loop-r-init : goal.loop-r-init

@@ -1,13 +1,4 @@
-use mathlib.Core.Path.{◌≡◌}
-use mathlib.Core.Bool.{not, ◌&&◌}
-use Prim.Native.Nat.{◌-◌}
-use lib.ListN.{length, take}
-use Rattle.laws.specs.Lists.{is_in}
-use Rattle.bits.specs.Sets.{set_of}
-use Rattle.rules.specs.Sheet.{is_memory}
-use Rattle.table.specs.Sheet.{sheet_in}
 use Rattle.holders.proofs.Holding.{list_none, list_next, list_end}
-use borrow.Author.Rules.{rules}
 use Rattle.holders.proofs.of_list.Goals as goal
 
 pub loop-k-init : goal.loop-k-init

@@ -6,8 +6,6 @@ use Rattle.laws.specs.Lists.{is_in}
 use Rattle.bits.specs.Sets.{set_of}
 use Rattle.rules.specs.Sheet.{is_memory}
 use Rattle.table.specs.Sheet.{sheet_in}
-use Rattle.holders.proofs.Holding.{list_none, list_next, list_end}
-use borrow.Author.Rules.{rules}
 use Rattle.holders.proofs.of_list.Given as goal
 
 abbrev pub invariant-loop-k : goal.invariant-loop-k

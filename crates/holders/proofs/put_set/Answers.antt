@@ -1,4 +1,3 @@
-use Rattle.laws.proofs.Words.{words}
 use Rattle.holders.proofs.Holding.{put_is, put_past}
 use borrow.Author.Rules.{rules}
 use Rattle.holders.proofs.put_set.Goals as goal

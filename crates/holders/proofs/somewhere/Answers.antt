@@ -1,11 +1,5 @@
-use mathlib.Core.Path.{◌≡◌}
-use Prim.Native.Nat.{◌-◌, ◌≤◌}
 use native.Mathlib.Omega.{arith}
-use Rattle.entity.specs.Limits.{reg_limit}
-use Rattle.rules.specs.Record.{holds}
-use Rattle.record.specs.Flat.{record_in, Long}
-use Rattle.holders.proofs.Holding.{some_below, some_none, some_next, some_end}
-use borrow.Author.Rules.{rules}
+use Rattle.holders.proofs.Holding.{some_none, some_next, some_end}
 use Rattle.holders.proofs.somewhere.Goals as goal
 
 pub loop-r-init : goal.loop-r-init

@@ -1,11 +1,9 @@
 use mathlib.Core.Path.{◌≡◌}
 use Prim.Native.Nat.{◌-◌, ◌≤◌}
-use native.Mathlib.Omega.{arith}
 use Rattle.entity.specs.Limits.{reg_limit}
 use Rattle.rules.specs.Record.{holds}
 use Rattle.record.specs.Flat.{record_in, Long}
-use Rattle.holders.proofs.Holding.{some_below, some_none, some_next, some_end}
-use borrow.Author.Rules.{rules}
+use Rattle.holders.proofs.Holding.{some_below}
 use Rattle.holders.proofs.somewhere.Given as goal
 
 abbrev pub invariant-loop-r : goal.invariant-loop-r

@@ -1,7 +1,6 @@
 use mathlib.Core.Path.{sym, ap, ◌∙◌}
 use mathlib.Core.Bool.{not}
 use Rattle.holders.proofs.Holding.{with_no, with_yes}
-use borrow.Author.Rules.{rules}
 use Rattle.holders.proofs.with_reg.Goals as goal
 
 pub returns-then-is_memory : goal.returns-then-is_memory

@@ -1,14 +1,9 @@
-use mathlib.Core.Path.{◌≡◌, refl, sym, ap, ◌∙◌}
-use Prim.Native.Nat.{◌-◌}
+use mathlib.Core.Path.{sym, ap, ◌∙◌}
 use lib.ListN.{drop}
-use borrow.Author.Tests.{not-true, not-false}
-use Rattle.laws.specs.Lists.{all}
 use Rattle.rules.specs.Sheet.{list_row}
 use Rattle.rules.specs.Accept.{units_within}
-use Rattle.table.specs.Sheet.{sheet_in}
 use Rattle.table.proofs.Sheets.{clobs_are}
 use Rattle.names.proofs.Rows.{fail_at, next_at, rows_end}
-use borrow.Author.Rules.{rules}
 use Rattle.names.proofs.limits.clobs_within.Goals as goal
 
 pub returns-then-not-units_within : goal.returns-then-not-units_within

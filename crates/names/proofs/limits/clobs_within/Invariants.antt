@@ -1,14 +1,9 @@
-use mathlib.Core.Path.{◌≡◌, refl, sym, ap, ◌∙◌}
+use mathlib.Core.Path.{◌≡◌}
 use Prim.Native.Nat.{◌-◌}
 use lib.ListN.{drop}
-use borrow.Author.Tests.{not-true, not-false}
 use Rattle.laws.specs.Lists.{all}
-use Rattle.rules.specs.Sheet.{list_row}
 use Rattle.rules.specs.Accept.{units_within}
 use Rattle.table.specs.Sheet.{sheet_in}
-use Rattle.table.proofs.Sheets.{clobs_are}
-use Rattle.names.proofs.Rows.{fail_at, next_at, rows_end}
-use borrow.Author.Rules.{rules}
 use Rattle.names.proofs.limits.clobs_within.Given as goal
 
 abbrev pub invariant-loop-n : goal.invariant-loop-n

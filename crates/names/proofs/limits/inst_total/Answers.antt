@@ -1,15 +1,10 @@
-use mathlib.Core.Path.{◌≡◌}
 use mathlib.Core.Bool.{false}
 use mathlib.Core.Option.{none}
-use Prim.Native.Nat.{◌+◌, ◌-◌, ◌≤◌}
 use native.Mathlib.Omega.{arith}
-use lib.ListN.{drop}
-use Rattle.entity.specs.Limits.{inst_limit}
 use Rattle.rules.specs.Sheet.{total_of}
 use Rattle.table.specs.Sheet.{sheet_in}
 use Rattle.table.proofs.Sheets.{long_of, blocks_are}
 use Rattle.names.proofs.Totals.{total_step, total_end, over_capped, is_capped}
-use borrow.Author.Rules.{rules}
 use Rattle.names.proofs.limits.inst_total.Goals as goal
 
 pub loop-b-init : goal.loop-b-init

@@ -1,10 +1,8 @@
 use mathlib.Core.Path.{sym, ◌∙◌}
 use Rattle.entity.specs.Limits.{class_limit, group_limit, reg_limit, slot_limit, value_group_limit, value_limit}
-use borrow.Author.Tests.{not-true, not-false}
 use Rattle.names.specs.Steps.{machine_within}
 use Rattle.table.proofs.Sheets.{long_of, regs_are, classes_are, groups_are, values_are, vgroups_are}
 use Rattle.names.proofs.Rows.{over, under, test_under}
-use borrow.Author.Rules.{rules}
 use Rattle.names.proofs.limits.machine_within.Goals as goal
 
 pub returns-then-slot_count-gt-LIMIT : goal.returns-then-slot_count-gt-LIMIT

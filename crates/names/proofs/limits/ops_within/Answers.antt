@@ -1,14 +1,8 @@
-use mathlib.Core.Path.{◌≡◌, refl, sym, ap, ◌∙◌}
-use Prim.Native.Nat.{◌-◌}
-use lib.ListN.{drop}
-use borrow.Author.Tests.{not-true, not-false}
-use Rattle.laws.specs.Lists.{all}
+use mathlib.Core.Path.{sym, ap, ◌∙◌}
 use Rattle.rules.specs.Sheet.{field, constraint_of}
 use Rattle.rules.specs.Accept.{reuse_within}
-use Rattle.table.specs.Sheet.{sheet_in}
 use Rattle.table.proofs.Sheets.{ops_are}
 use Rattle.names.proofs.Rows.{fail_at, next_at, rows_end}
-use borrow.Author.Rules.{rules}
 use Rattle.names.proofs.limits.ops_within.Goals as goal
 
 pub returns-then-not-reuse_within : goal.returns-then-not-reuse_within

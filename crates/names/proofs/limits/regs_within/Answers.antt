@@ -1,13 +1,7 @@
-use mathlib.Core.Path.{◌≡◌, refl, sym, ap, ◌∙◌}
-use Prim.Native.Nat.{◌-◌}
-use lib.ListN.{drop}
-use borrow.Author.Tests.{not-true, not-false}
-use Rattle.laws.specs.Lists.{all}
+use mathlib.Core.Path.{sym, ap, ◌∙◌}
 use Rattle.rules.specs.Accept.{units_within}
-use Rattle.table.specs.Sheet.{sheet_in}
 use Rattle.table.proofs.Sheets.{regs_are}
 use Rattle.names.proofs.Rows.{rows_fail, rows_next, rows_end}
-use borrow.Author.Rules.{rules}
 use Rattle.names.proofs.limits.regs_within.Goals as goal
 
 pub returns-then-not-units_within : goal.returns-then-not-units_within

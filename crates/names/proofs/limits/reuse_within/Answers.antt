@@ -1,6 +1,5 @@
 use mathlib.Core.Path.{sym, ap}
 use Rattle.rules.specs.Accept.{reuse_within}
-use borrow.Author.Rules.{rules}
 use Rattle.names.proofs.limits.reuse_within.Goals as goal
 
 pub returns-in-Class : goal.returns-in-Class

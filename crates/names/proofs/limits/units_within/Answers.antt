@@ -1,5 +1,4 @@
 use Rattle.rules.specs.Accept.{units_within}
-use borrow.Author.Rules.{rules}
 use Rattle.names.proofs.limits.units_within.Goals as goal
 
 pub returns : goal.returns

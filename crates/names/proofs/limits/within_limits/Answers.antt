@@ -1,12 +1,10 @@
 use mathlib.Core.Path.{sym, ◌∙◌}
 use Rattle.entity.specs.Limits.{block_limit, edit_limit, operand_limit}
-use borrow.Author.Tests.{not-true, not-false}
 use Rattle.table.proofs.Sheets.{long_of, blocks_are, ops_are, edits_are}
 use Rattle.names.proofs.Rows.{over, under, test_under}
 use Rattle.names.proofs.Totals.{capped_over, capped_under}
 use Rattle.names.proofs.Within.{limits_by}
 use Rattle.table.specs.Sheet.{sheet_in}
-use borrow.Author.Rules.{rules}
 use Rattle.names.proofs.limits.within_limits.Goals as goal
 
 pub returns-then-not-machine_within : goal.returns-then-not-machine_within

@@ -1,11 +1,6 @@
-use mathlib.Core.Path.{◌≡◌, refl, sym, ◌∙◌}
-use Prim.Native.Nat.{◌-◌}
-use lib.ListN.{length, drop}
-use lib.Dec.{ltb}
-use Rattle.laws.specs.Lists.{all}
+use mathlib.Core.Path.{sym, ◌∙◌}
 use Rattle.table.proofs.Loops.{all_false_in, all_next_in, all_end_in}
 use borrow.Author.Tests.{lt-ltb, le-ltb}
-use borrow.Author.Rules.{rules}
 use Rattle.names.proofs.lists.all_below.Goals as goal
 
 pub returns-then-list-i : goal.returns-then-list-i

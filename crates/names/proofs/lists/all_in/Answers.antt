@@ -1,12 +1,7 @@
-use mathlib.Core.Path.{◌≡◌, refl, sym, ap, ◌∙◌}
-use Prim.Native.Nat.{◌-◌}
-use lib.ListN.{length, drop}
-use Rattle.bits.specs.Sets.{has}
-use Rattle.laws.specs.Lists.{all}
+use mathlib.Core.Path.{sym, ap, ◌∙◌}
 use Rattle.table.proofs.Loops.{all_false_in, all_next_in, all_end_in}
 use mathlib.Core.Bool.{not}
 use borrow.Author.Tests.{not-true, not-false}
-use borrow.Author.Rules.{rules}
 use Rattle.names.proofs.lists.all_in.Goals as goal
 
 pub returns-then-not-contains : goal.returns-then-not-contains

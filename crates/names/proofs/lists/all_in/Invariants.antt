@@ -1,12 +1,8 @@
-use mathlib.Core.Path.{◌≡◌, refl, sym, ap, ◌∙◌}
+use mathlib.Core.Path.{◌≡◌}
 use Prim.Native.Nat.{◌-◌}
 use lib.ListN.{length, drop}
 use Rattle.bits.specs.Sets.{has}
 use Rattle.laws.specs.Lists.{all}
-use Rattle.table.proofs.Loops.{all_false_in, all_next_in, all_end_in}
-use mathlib.Core.Bool.{not}
-use borrow.Author.Tests.{not-true, not-false}
-use borrow.Author.Rules.{rules}
 use Rattle.names.proofs.lists.all_in.Given as goal
 
 abbrev pub invariant-loop-i : goal.invariant-loop-i

@@ -1,10 +1,5 @@
-use mathlib.Core.Path.{◌≡◌, refl, sym, ◌∙◌}
-use Prim.Native.Nat.{◌-◌}
-use lib.ListN.{length, drop}
-use Rattle.bits.specs.Sets.{has}
-use Rattle.laws.specs.Lists.{any}
+use mathlib.Core.Path.{sym, ◌∙◌}
 use Rattle.table.proofs.Loops.{any_true_in, any_next_in, any_end_in}
-use borrow.Author.Rules.{rules}
 use Rattle.names.proofs.lists.any_in.Goals as goal
 
 pub returns-then-contains : goal.returns-then-contains

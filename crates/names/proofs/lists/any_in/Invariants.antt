@@ -1,10 +1,8 @@
-use mathlib.Core.Path.{◌≡◌, refl, sym, ◌∙◌}
+use mathlib.Core.Path.{◌≡◌}
 use Prim.Native.Nat.{◌-◌}
 use lib.ListN.{length, drop}
 use Rattle.bits.specs.Sets.{has}
 use Rattle.laws.specs.Lists.{any}
-use Rattle.table.proofs.Loops.{any_true_in, any_next_in, any_end_in}
-use borrow.Author.Rules.{rules}
 use Rattle.names.proofs.lists.any_in.Given as goal
 
 abbrev pub invariant-loop-i : goal.invariant-loop-i

@@ -1,11 +1,7 @@
-use mathlib.Core.Path.{◌≡◌, refl, ◌∙◌}
-use mathlib.Core.Bool.{◌||◌}
-use Prim.Native.Nat.{◌-◌}
-use lib.ListN.{length, drop}
+use mathlib.Core.Path.{◌∙◌}
 use lib.Dec.{eqb}
-use Rattle.laws.specs.Lists.{any, is_in}
+use Rattle.laws.specs.Lists.{is_in}
 use Rattle.names.proofs.Sets.{found_next, found_end}
-use borrow.Author.Rules.{rules}
 use Rattle.names.proofs.lists.is_in.Goals as goal
 
 pub loop-i-preserved : goal.loop-i-preserved

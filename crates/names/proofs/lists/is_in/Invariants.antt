@@ -1,11 +1,9 @@
-use mathlib.Core.Path.{◌≡◌, refl, ◌∙◌}
+use mathlib.Core.Path.{◌≡◌}
 use mathlib.Core.Bool.{◌||◌}
 use Prim.Native.Nat.{◌-◌}
 use lib.ListN.{length, drop}
 use lib.Dec.{eqb}
-use Rattle.laws.specs.Lists.{any, is_in}
-use Rattle.names.proofs.Sets.{found_next, found_end}
-use borrow.Author.Rules.{rules}
+use Rattle.laws.specs.Lists.{any}
 use Rattle.names.proofs.lists.is_in.Given as goal
 
 abbrev pub invariant-loop-i : goal.invariant-loop-i

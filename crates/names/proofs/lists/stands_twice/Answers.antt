@@ -1,10 +1,5 @@
-use mathlib.Core.Path.{◌≡◌, sym, ◌∙◌}
-use Prim.Native.Nat.{◌-◌}
-use lib.ListN.{length, drop}
-use mathlib.Core.Bool.{true}
-use Rattle.laws.specs.Lists.{twice}
-use Rattle.names.proofs.Sets.{below, again, twice_start, twice_found, twice_next, twice_end}
-use borrow.Author.Rules.{rules}
+use mathlib.Core.Path.{sym, ◌∙◌}
+use Rattle.names.proofs.Sets.{twice_start, twice_found, twice_next, twice_end}
 use Rattle.names.proofs.lists.stands_twice.Goals as goal
 
 pub loop-i-init : goal.loop-i-init

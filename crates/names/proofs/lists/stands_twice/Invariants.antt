@@ -1,10 +1,9 @@
-use mathlib.Core.Path.{◌≡◌, sym, ◌∙◌}
+use mathlib.Core.Path.{◌≡◌}
 use Prim.Native.Nat.{◌-◌}
 use lib.ListN.{length, drop}
 use mathlib.Core.Bool.{true}
 use Rattle.laws.specs.Lists.{twice}
-use Rattle.names.proofs.Sets.{below, again, twice_start, twice_found, twice_next, twice_end}
-use borrow.Author.Rules.{rules}
+use Rattle.names.proofs.Sets.{below, again}
 use Rattle.names.proofs.lists.stands_twice.Given as goal
 
 abbrev pub invariant-loop-i : goal.invariant-loop-i

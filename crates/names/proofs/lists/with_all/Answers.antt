@@ -1,12 +1,7 @@
 use mathlib.Core.Path.{refl}
-use Prim.Native.Nat.{◌-◌}
-use lib.ListN.{length}
-use mathlib.Core.Bool.{◌||◌}
-use lib.Dec.{eqb}
 use Rattle.laws.specs.Lists.{is_in}
 use Rattle.laws.proofs.Words.{Words, words}
-use Rattle.bits.specs.Sets.{has, set_of}
-use Rattle.names.proofs.Sets.{Growing, grow_next, grow_end}
+use Rattle.names.proofs.Sets.{grow_next, grow_end}
 use borrow.Author.Rules.{rules}
 use Rattle.names.proofs.lists.with_all.Goals as goal
 

@@ -1,8 +1,6 @@
 use mathlib.Core.Path.{sym, ◌∙◌}
-use borrow.Author.Tests.{not-true, not-false}
 use Rattle.names.proofs.Within.{names_by, code_is}
 use Rattle.table.specs.Sheet.{sheet_in}
-use borrow.Author.Rules.{rules}
 use Rattle.names.proofs.names.all_named.Goals as goal
 
 pub returns-then-not-machine_named : goal.returns-then-not-machine_named

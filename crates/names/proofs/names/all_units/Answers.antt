@@ -1,15 +1,10 @@
 use mathlib.Core.Path.{◌∙◌}
 use mathlib.Core.Bool.{false}
 use mathlib.Core.List.{[]}
-use Prim.Native.Nat.{◌-◌}
 use native.Mathlib.Omega.{arith}
-use Rattle.laws.specs.Lists.{is_in}
-use Rattle.bits.specs.Sets.{set_of}
 use Rattle.rules.specs.Accept.{unit_exists}
-use Rattle.table.specs.Sheet.{sheet_in}
 use Rattle.table.proofs.Sheets.{long_of, regs_are}
-use Rattle.names.proofs.Sets.{Growing, grow_none, grow_next, grow_end, add_list}
-use borrow.Author.Rules.{rules}
+use Rattle.names.proofs.Sets.{grow_none, grow_next, grow_end, add_list}
 use Rattle.names.proofs.names.all_units.Goals as goal
 
 pub loop-r-init : goal.loop-r-init

@@ -1,17 +1,12 @@
-use mathlib.Core.Path.{◌≡◌, refl, sym, ap, ◌∙◌}
+use mathlib.Core.Path.{sym, ap, ◌∙◌}
 use mathlib.Core.Bool.{not}
 use mathlib.Core.List.{[]}
-use Prim.Native.Nat.{◌-◌}
 use native.Mathlib.Omega.{arith}
-use lib.ListN.{drop}
-use Rattle.laws.specs.Lists.{any}
 use Rattle.rules.specs.Sheet.{field}
-use Rattle.rules.specs.Accept.{headed_by}
 use Rattle.table.specs.Sheet.{sheet_in}
 use Rattle.table.proofs.Sheets.{long_of, groups_are}
 use Rattle.table.proofs.Loops.{any_true_in, any_next_in, any_end_in}
 use Rattle.names.proofs.Totals.{none_later, head_same}
-use borrow.Author.Rules.{rules}
 use Rattle.names.proofs.names.apart_from_later.Goals as goal
 
 pub returns-then-rows-g : goal.returns-then-rows-g

@@ -1,7 +1,6 @@
 use mathlib.Core.Path.{sym, ap, ◌∙◌}
 use lib.Dec.{ltb}
 use Rattle.table.proofs.Sheets.{long_of, blocks_are}
-use borrow.Author.Rules.{rules}
 use Rattle.names.proofs.names.block_exists.Goals as goal
 
 pub returns : goal.returns

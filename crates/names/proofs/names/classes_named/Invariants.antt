@@ -1,13 +1,9 @@
-use mathlib.Core.Path.{◌≡◌, refl, sym, ◌∙◌}
+use mathlib.Core.Path.{◌≡◌}
 use Prim.Native.Nat.{◌-◌}
 use lib.ListN.{drop}
-use borrow.Author.Tests.{not-true, not-false}
 use Rattle.laws.specs.Lists.{all}
 use Rattle.rules.specs.Accept.{reg_exists}
 use Rattle.table.specs.Sheet.{sheet_in}
-use Rattle.table.proofs.Sheets.{classes_are}
-use Rattle.names.proofs.Rows.{rows_fail, rows_next, rows_end}
-use borrow.Author.Rules.{rules}
 use Rattle.names.proofs.names.classes_named.Given as goal
 
 abbrev pub invariant-loop-c : goal.invariant-loop-c

@@ -3,7 +3,6 @@ use lib.ListN.{drop}
 use Rattle.laws.specs.Lists.{all}
 use Rattle.rules.specs.Sheet.{field, list_row}
 use Rattle.names.proofs.Rows.{and_is, below_is}
-use borrow.Author.Rules.{rules}
 use Rattle.names.proofs.names.clob_named.Goals as goal
 
 pub returns : goal.returns

@@ -1,14 +1,10 @@
-use mathlib.Core.Path.{◌≡◌, refl, sym, ◌∙◌}
+use mathlib.Core.Path.{◌≡◌}
 use Prim.Native.Nat.{◌-◌}
 use lib.ListN.{drop}
-use borrow.Author.Tests.{not-true, not-false}
 use Rattle.laws.specs.Lists.{all}
 use Rattle.bits.specs.Sets.{has}
 use Rattle.names.specs.Steps.{clob_named}
 use Rattle.table.specs.Sheet.{sheet_in}
-use Rattle.table.proofs.Sheets.{clobs_are}
-use Rattle.names.proofs.Rows.{fail_at, next_at, rows_end}
-use borrow.Author.Rules.{rules}
 use Rattle.names.proofs.names.clobs_named.Given as goal
 
 abbrev pub invariant-loop-n : goal.invariant-loop-n

@@ -1,7 +1,5 @@
 use mathlib.Core.Path.{sym, ◌∙◌}
-use borrow.Author.Tests.{not-true, not-false}
 use Rattle.names.specs.Steps.{code_named}
-use borrow.Author.Rules.{rules}
 use Rattle.names.proofs.names.code_named.Goals as goal
 
 pub returns-then-not-ops_named : goal.returns-then-not-ops_named

@@ -4,7 +4,6 @@ use Rattle.rules.specs.Accept.{block_exists}
 use Rattle.table.proofs.Sheets.{long_of, blocks_are}
 use Rattle.names.proofs.Rows.{and_is, list_below}
 use Rattle.table.specs.Sheet.{sheet_in}
-use borrow.Author.Rules.{rules}
 use Rattle.names.proofs.names.edge_named.Goals as goal
 
 pub returns : goal.returns

@@ -3,7 +3,6 @@ use Rattle.rules.specs.Accept.{edit_names}
 use Rattle.table.proofs.Stored.{sheet_edit_is}
 use Rattle.names.proofs.Rows.{and_is, below_is}
 use Rattle.table.specs.Sheet.{sheet_in}
-use borrow.Author.Rules.{rules}
 use Rattle.names.proofs.names.edit_named.Goals as goal
 
 pub returns : goal.returns

@@ -2,7 +2,6 @@ use mathlib.Core.Path.{sym, ap, ◌∙◌}
 use Rattle.rules.specs.Accept.{edit_names}
 use Rattle.names.proofs.Rows.{and_is}
 use Rattle.table.specs.Sheet.{sheet_in}
-use borrow.Author.Rules.{rules}
 use Rattle.names.proofs.names.edit_names.Goals as goal
 
 pub returns-in-Move : goal.returns-in-Move

@@ -1,13 +1,8 @@
-use mathlib.Core.Path.{◌≡◌, refl, sym, ◌∙◌}
-use Prim.Native.Nat.{◌-◌}
+use mathlib.Core.Path.{sym, ◌∙◌}
 use native.Mathlib.Omega.{arith}
-use lib.ListN.{drop}
-use borrow.Author.Tests.{not-true, not-false}
-use Rattle.rules.specs.Accept.{heads_apart}
 use Rattle.table.specs.Sheet.{sheet_in}
 use Rattle.table.proofs.Sheets.{long_of, groups_are}
 use Rattle.names.proofs.Totals.{heads_fail, heads_next, heads_end}
-use borrow.Author.Rules.{rules}
 use Rattle.names.proofs.names.heads_apart.Goals as goal
 
 pub returns-then-not-apart_from_later : goal.returns-then-not-apart_from_later

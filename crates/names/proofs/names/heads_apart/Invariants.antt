@@ -1,13 +1,8 @@
-use mathlib.Core.Path.{◌≡◌, refl, sym, ◌∙◌}
+use mathlib.Core.Path.{◌≡◌}
 use Prim.Native.Nat.{◌-◌}
-use native.Mathlib.Omega.{arith}
 use lib.ListN.{drop}
-use borrow.Author.Tests.{not-true, not-false}
 use Rattle.rules.specs.Accept.{heads_apart}
 use Rattle.table.specs.Sheet.{sheet_in}
-use Rattle.table.proofs.Sheets.{long_of, groups_are}
-use Rattle.names.proofs.Totals.{heads_fail, heads_next, heads_end}
-use borrow.Author.Rules.{rules}
 use Rattle.names.proofs.names.heads_apart.Given as goal
 
 abbrev pub invariant-loop-g : goal.invariant-loop-g

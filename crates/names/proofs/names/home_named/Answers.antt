@@ -1,6 +1,5 @@
 use mathlib.Core.Path.{◌∙◌}
 use Rattle.names.proofs.Naming.{slot_there, slot_absent}
-use borrow.Author.Rules.{rules}
 use Rattle.names.proofs.names.home_named.Goals as goal
 
 pub returns-in-At : goal.returns-in-At

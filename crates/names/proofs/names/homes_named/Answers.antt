@@ -1,15 +1,6 @@
-use mathlib.Core.Path.{◌≡◌, refl, sym, ◌∙◌}
-use Prim.Native.Nat.{◌-◌}
-use lib.ListN.{drop}
-use mathlib.Core.Bool.{true}
-use mathlib.Core.Option.{Option-elim}
-use borrow.Author.Tests.{not-true, not-false}
-use Rattle.laws.specs.Lists.{all}
-use Rattle.rules.specs.Accept.{slot_exists}
-use Rattle.table.specs.Sheet.{sheet_in}
+use mathlib.Core.Path.{sym, ◌∙◌}
 use Rattle.table.proofs.Sheets.{values_are}
 use Rattle.names.proofs.Rows.{rows_fail, rows_next, rows_end}
-use borrow.Author.Rules.{rules}
 use Rattle.names.proofs.names.homes_named.Goals as goal
 
 pub returns-then-not-home_named : goal.returns-then-not-home_named

@@ -1,6 +1,5 @@
 use mathlib.Core.Path.{◌∙◌}
 use Rattle.names.proofs.Naming.{block_there, block_absent}
-use borrow.Author.Rules.{rules}
 use Rattle.names.proofs.names.idom_named.Goals as goal
 
 pub returns-in-At : goal.returns-in-At

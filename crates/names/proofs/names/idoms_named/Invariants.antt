@@ -1,15 +1,11 @@
-use mathlib.Core.Path.{◌≡◌, refl, sym, ◌∙◌}
+use mathlib.Core.Path.{◌≡◌}
 use Prim.Native.Nat.{◌-◌}
 use lib.ListN.{drop}
 use mathlib.Core.Bool.{true}
 use mathlib.Core.Option.{Option-elim}
-use borrow.Author.Tests.{not-true, not-false}
 use Rattle.laws.specs.Lists.{all}
 use Rattle.rules.specs.Accept.{block_exists}
 use Rattle.table.specs.Sheet.{sheet_in}
-use Rattle.table.proofs.Sheets.{blocks_are}
-use Rattle.names.proofs.Rows.{rows_fail, rows_next, rows_end}
-use borrow.Author.Rules.{rules}
 use Rattle.names.proofs.names.idoms_named.Given as goal
 
 abbrev pub invariant-loop-b : goal.invariant-loop-b

@@ -1,7 +1,5 @@
 use mathlib.Core.Path.{sym, ◌∙◌}
-use borrow.Author.Tests.{not-true, not-false}
 use Rattle.names.specs.Steps.{machine_named}
-use borrow.Author.Rules.{rules}
 use Rattle.names.proofs.names.machine_named.Goals as goal
 
 pub returns-then-not-classes_named : goal.returns-then-not-classes_named

@@ -1,7 +1,5 @@
 use mathlib.Core.Path.{sym, ◌∙◌}
-use borrow.Author.Tests.{not-true, not-false}
 use Rattle.rules.specs.Accept.{names_hold}
-use borrow.Author.Rules.{rules}
 use Rattle.names.proofs.names.names_hold.Goals as goal
 
 pub returns-then-not-all_named : goal.returns-then-not-all_named

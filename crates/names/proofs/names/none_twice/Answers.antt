@@ -1,8 +1,6 @@
 use mathlib.Core.Path.{sym, ◌∙◌}
-use borrow.Author.Tests.{not-true, not-false}
 use Rattle.rules.specs.Accept.{none_twice}
 use Rattle.names.proofs.Within.{regs_once, classes_once, groups_once, vgroups_once, succs_once, preds_once, clobs_once}
-use borrow.Author.Rules.{rules}
 use Rattle.names.proofs.names.none_twice.Goals as goal
 
 pub returns-then-not-none_twice_in : goal.returns-then-not-none_twice_in

@@ -1,16 +1,10 @@
-use mathlib.Core.Path.{◌≡◌, refl, sym, ap, ◌∙◌}
+use mathlib.Core.Path.{◌≡◌}
 use mathlib.Core.Bool.{true, not}
-use mathlib.Core.List.{[]}
 use Prim.Native.Nat.{◌-◌}
-use native.Mathlib.Omega.{arith}
 use lib.ListN.{drop}
 use Rattle.laws.specs.Lists.{all, twice}
 use Rattle.table.specs.Sheet.{rows_at}
-use Rattle.table.proofs.Sheets.{rows_long, rows_at_lem}
-use Rattle.table.proofs.Loops.{all_at}
-use Rattle.names.proofs.Rows.{rows_self, fail_at, next_at, rows_end}
 use Rattle.names.proofs.Sets.{below}
-use borrow.Author.Rules.{rules}
 use Rattle.names.proofs.names.none_twice_in.Given as goal
 
 abbrev pub invariant-loop-n : goal.invariant-loop-n

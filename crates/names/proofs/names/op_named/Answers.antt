@@ -3,7 +3,6 @@ use lib.Dec.{ltb}
 use Rattle.names.proofs.Rows.{and_is}
 use Rattle.names.proofs.Naming.{op_names}
 use Rattle.table.specs.Sheet.{sheet_in}
-use borrow.Author.Rules.{rules}
 use Rattle.names.proofs.names.op_named.Goals as goal
 
 pub returns : goal.returns

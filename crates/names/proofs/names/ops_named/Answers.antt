@@ -1,13 +1,6 @@
-use mathlib.Core.Path.{◌≡◌, refl, sym, ◌∙◌}
-use Prim.Native.Nat.{◌-◌}
-use lib.ListN.{drop}
-use borrow.Author.Tests.{not-true, not-false}
-use Rattle.laws.specs.Lists.{all}
-use Rattle.names.specs.Steps.{op_named}
-use Rattle.table.specs.Sheet.{sheet_in}
+use mathlib.Core.Path.{sym, ◌∙◌}
 use Rattle.table.proofs.Sheets.{ops_are}
 use Rattle.names.proofs.Rows.{rows_fail, rows_next, rows_end}
-use borrow.Author.Rules.{rules}
 use Rattle.names.proofs.names.ops_named.Goals as goal
 
 pub returns-then-not-op_named : goal.returns-then-not-op_named

@@ -2,7 +2,6 @@ use mathlib.Core.Path.{◌∙◌}
 use Rattle.names.proofs.Rows.{and_is}
 use Rattle.names.proofs.Naming.{param_names}
 use Rattle.table.specs.Sheet.{sheet_in}
-use borrow.Author.Rules.{rules}
 use Rattle.names.proofs.names.param_named.Goals as goal
 
 pub returns : goal.returns

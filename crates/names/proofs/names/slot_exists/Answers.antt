@@ -1,6 +1,5 @@
 use mathlib.Core.Path.{ap}
 use lib.Dec.{ltb}
-use borrow.Author.Rules.{rules}
 use Rattle.names.proofs.names.slot_exists.Goals as goal
 
 pub returns : goal.returns

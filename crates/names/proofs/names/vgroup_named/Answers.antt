@@ -1,7 +1,6 @@
 use mathlib.Core.Path.{sym, ◌∙◌}
 use Rattle.table.proofs.Sheets.{long_of, values_are}
 use Rattle.names.proofs.Rows.{list_below}
-use borrow.Author.Rules.{rules}
 use Rattle.names.proofs.names.vgroup_named.Goals as goal
 
 pub returns : goal.returns

@@ -1,5 +1,4 @@
 use native.Mathlib.Omega.{arith}
-use borrow.Author.Rules.{rules}
 use Rattle.record.proofs.Sections.{change_hit, change_miss}
 use Rattle.record.proofs.flat.change.Goals as goal
 

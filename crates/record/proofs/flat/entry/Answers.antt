@@ -1,5 +1,4 @@
 use native.Mathlib.Omega.{arith}
-use borrow.Author.Rules.{rules}
 use Rattle.record.proofs.Sections.{entry_hit, entry_miss}
 use Rattle.record.proofs.flat.entry.Goals as goal
 

@@ -2,7 +2,6 @@ use mathlib.Core.Path.{◌≡◌}
 use mathlib.Core.List.{List}
 use Prim.Native.Nat.{ℕ}
 use Rattle.entity.specs.Limits.{unit_limit}
-use borrow.Author.Rules.{rules}
 use Rattle.record.specs.Layout.{noted_reg_at, noted_value_at}
 use Rattle.record.specs.Flat.{changed_in, unit_reg_in, unit_value_in, unit_noted}
 use Rattle.record.proofs.flat.note_unit.Goals as goal

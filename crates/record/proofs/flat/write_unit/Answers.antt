@@ -1,6 +1,5 @@
 use mathlib.Core.Path.{◌∙◌, ap}
 use Rattle.entity.specs.Limits.{unit_limit}
-use borrow.Author.Rules.{rules}
 use Rattle.record.specs.Layout.{unit_value_at}
 use Rattle.record.specs.Flat.{changed_in}
 use Rattle.record.proofs.flat.write_unit.Goals as goal

@@ -1,11 +1,7 @@
-use Prim.Native.Nat.{◌≤◌, ◌-◌}
 use native.Mathlib.Omega.{arith}
-use lib.ListN.{length}
-use borrow.Author.Rules.{rules}
-use Rattle.record.specs.Flat.{Long}
 use Rattle.rules.specs.Record.{add_back}
 use Rattle.table.specs.Sheet.{sheet_in}
-use Rattle.record.proofs.Changes.{Going, going_none, going_next, going_end}
+use Rattle.record.proofs.Changes.{going_none, going_next, going_end}
 use Rattle.record.proofs.steps.add_all_back.Goals as goal
 
 pub loop-k-init : goal.loop-k-init

@@ -1,4 +1,3 @@
-use borrow.Author.Rules.{rules}
 use Rattle.table.specs.Sheet.{sheet_in}
 use Rattle.record.proofs.Rules.{no_note_added, held_already, added_back, not_added}
 use Rattle.record.proofs.steps.add_back.Goals as goal

@@ -1,12 +1,6 @@
-use mathlib.Core.Path.{◌≡◌, refl}
-use Prim.Native.Nat.{◌≤◌, ◌-◌}
+use mathlib.Core.Path.{refl}
 use native.Mathlib.Omega.{arith}
-use lib.ListN.{drop}
-use lib.ListN.{length}
-use borrow.Author.Rules.{rules}
-use Rattle.record.specs.Flat.{Long}
-use Rattle.laws.specs.Lists.{all}
-use Rattle.record.proofs.Rules.{is_write, not_written, more_written, all_written_is}
+use Rattle.record.proofs.Rules.{not_written, more_written, all_written_is}
 use Rattle.record.proofs.steps.all_written.Goals as goal
 
 pub loop-k-init : goal.loop-k-init

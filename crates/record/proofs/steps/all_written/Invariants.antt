@@ -1,12 +1,10 @@
-use mathlib.Core.Path.{◌≡◌, refl}
+use mathlib.Core.Path.{◌≡◌}
 use Prim.Native.Nat.{◌≤◌, ◌-◌}
-use native.Mathlib.Omega.{arith}
 use lib.ListN.{drop}
 use lib.ListN.{length}
-use borrow.Author.Rules.{rules}
 use Rattle.record.specs.Flat.{Long}
 use Rattle.laws.specs.Lists.{all}
-use Rattle.record.proofs.Rules.{is_write, not_written, more_written, all_written_is}
+use Rattle.record.proofs.Rules.{is_write}
 use Rattle.record.proofs.steps.all_written.Given as goal
 
 abbrev pub invariant-loop-k : goal.invariant-loop-k

@@ -1,4 +1,3 @@
-use borrow.Author.Rules.{rules}
 use Rattle.table.specs.Sheet.{sheet_in}
 use Rattle.record.proofs.Rules.{arrived_reg, arrived_home, arrived_away}
 use Rattle.record.proofs.steps.arrive.Goals as goal

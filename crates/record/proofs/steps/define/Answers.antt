@@ -1,4 +1,3 @@
-use borrow.Author.Rules.{rules}
 use Rattle.table.specs.Sheet.{sheet_in}
 use Rattle.record.proofs.Rules.{defined_reg, defined_slot}
 use Rattle.record.proofs.steps.define.Goals as goal

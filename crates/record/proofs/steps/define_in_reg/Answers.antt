@@ -1,4 +1,3 @@
-use borrow.Author.Rules.{rules}
 use Rattle.table.specs.Sheet.{sheet_in}
 use Rattle.record.proofs.Rules.{defined_in_reg}
 use Rattle.record.proofs.steps.define_in_reg.Goals as goal

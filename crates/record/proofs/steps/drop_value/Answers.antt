@@ -1,10 +1,5 @@
-use Prim.Native.Nat.{◌≤◌, ◌-◌}
 use native.Mathlib.Omega.{arith}
-use borrow.Author.Rules.{rules}
-use Rattle.record.specs.Layout.{held_at, stored_at}
-use Rattle.record.specs.Flat.{Long}
-use Rattle.laws.proofs.Lists.{MapTo}
-use Rattle.record.proofs.Rules.{passed, drop_none, drop_next, drop_end}
+use Rattle.record.proofs.Rules.{drop_none, drop_next, drop_end}
 use Rattle.record.proofs.steps.drop_value.Goals as goal
 
 pub loop-i-init : goal.loop-i-init

@@ -1,10 +1,8 @@
 use Prim.Native.Nat.{◌≤◌, ◌-◌}
-use native.Mathlib.Omega.{arith}
-use borrow.Author.Rules.{rules}
 use Rattle.record.specs.Layout.{held_at, stored_at}
 use Rattle.record.specs.Flat.{Long}
 use Rattle.laws.proofs.Lists.{MapTo}
-use Rattle.record.proofs.Rules.{passed, drop_none, drop_next, drop_end}
+use Rattle.record.proofs.Rules.{passed}
 use Rattle.record.proofs.steps.drop_value.Given as goal
 
 abbrev pub invariant-loop-i : goal.invariant-loop-i

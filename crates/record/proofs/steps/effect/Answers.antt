@@ -1,4 +1,3 @@
-use borrow.Author.Rules.{rules}
 use Rattle.table.specs.Sheet.{sheet_in}
 use Rattle.record.proofs.Rules.{moved, remade, noted, loaded, misplaced, no_edit}
 use Rattle.record.proofs.steps.effect.Goals as goal

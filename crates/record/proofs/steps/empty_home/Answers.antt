@@ -1,4 +1,3 @@
-use borrow.Author.Rules.{rules}
 use Rattle.table.specs.Sheet.{sheet_in}
 use Rattle.record.proofs.Rules.{emptied, not_emptied}
 use Rattle.record.proofs.steps.empty_home.Goals as goal

@@ -1,4 +1,3 @@
-use borrow.Author.Rules.{rules}
 use Rattle.record.proofs.Rules.{forgotten}
 use Rattle.record.proofs.steps.forget_unit.Goals as goal
 

@@ -1,10 +1,6 @@
-use Prim.Native.Nat.{◌≤◌, ◌-◌}
 use native.Mathlib.Omega.{arith}
-use lib.ListN.{length}
-use borrow.Author.Rules.{rules}
-use Rattle.record.specs.Flat.{Long}
 use Rattle.rules.specs.Record.{forget_unit}
-use Rattle.record.proofs.Changes.{Going, going_none, going_next, going_end}
+use Rattle.record.proofs.Changes.{going_none, going_next, going_end}
 use Rattle.record.proofs.steps.forget_units.Goals as goal
 
 pub loop-k-init : goal.loop-k-init

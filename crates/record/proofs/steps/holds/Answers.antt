@@ -1,4 +1,3 @@
-use borrow.Author.Rules.{rules}
 use Rattle.record.proofs.Rules.{holds_is}
 use Rattle.record.proofs.steps.holds.Goals as goal
 

@@ -1,4 +1,3 @@
-use borrow.Author.Rules.{rules}
 use Rattle.table.specs.Sheet.{sheet_in}
 use Rattle.record.proofs.Rules.{home_is, no_home_lem}
 use Rattle.record.proofs.steps.is_home.Goals as goal

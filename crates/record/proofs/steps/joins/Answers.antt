@@ -1,6 +1,5 @@
 use lib.ListN.{length}
 use borrow.Author.Tests.{eq-eqb, ne_eqb}
-use borrow.Author.Rules.{rules}
 use Rattle.record.proofs.steps.joins.Goals as goal
 
 pub returns-then-us-eq1 : goal.returns-then-us-eq1

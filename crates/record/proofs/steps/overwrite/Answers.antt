@@ -1,4 +1,3 @@
-use borrow.Author.Rules.{rules}
 use Rattle.table.specs.Sheet.{sheet_in}
 use Rattle.record.proofs.Rules.{overwritten}
 use Rattle.record.proofs.steps.overwrite.Goals as goal

@@ -1,4 +1,3 @@
-use borrow.Author.Rules.{rules}
 use Rattle.record.proofs.Rules.{taken, not_taken}
 use Rattle.record.proofs.steps.take_from.Goals as goal
 

@@ -1,4 +1,3 @@
-use borrow.Author.Rules.{rules}
 use Rattle.record.proofs.Rules.{no_note, written_back}
 use Rattle.record.proofs.steps.write_back.Goals as goal
 

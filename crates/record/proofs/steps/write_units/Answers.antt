@@ -1,11 +1,7 @@
-use Prim.Native.Nat.{◌≤◌, ◌-◌}
 use native.Mathlib.Omega.{arith}
 use lib.ListN.{get_or}
-use lib.ListN.{length}
-use borrow.Author.Rules.{rules}
-use Rattle.record.specs.Flat.{Long}
 use Rattle.rules.specs.Record.{write_unit}
-use Rattle.record.proofs.Changes.{Going, going_none, going_next, going_end, writing}
+use Rattle.record.proofs.Changes.{going_none, going_next, going_end, writing}
 use Rattle.record.proofs.steps.write_units.Goals as goal
 
 pub loop-k-init : goal.loop-k-init

@@ -1,11 +1,8 @@
 use Prim.Native.Nat.{◌≤◌, ◌-◌}
-use native.Mathlib.Omega.{arith}
-use lib.ListN.{get_or}
 use lib.ListN.{length}
-use borrow.Author.Rules.{rules}
 use Rattle.record.specs.Flat.{Long}
 use Rattle.rules.specs.Record.{write_unit}
-use Rattle.record.proofs.Changes.{Going, going_none, going_next, going_end, writing}
+use Rattle.record.proofs.Changes.{Going}
 use Rattle.record.proofs.steps.write_units.Given as goal
 
 abbrev pub invariant-loop-k : goal.invariant-loop-k

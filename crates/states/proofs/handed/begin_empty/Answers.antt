@@ -1,16 +1,9 @@
 use Rattle.states.proofs.TakingIn.{begun_empty}
 use Rattle.states.proofs.Spans.{span_front}
-use mathlib.Core.Path.{◌≡◌, refl, sym, ap, ◌∙◌}
-use mathlib.Core.Bool.{cond}
-use Prim.Native.Nat.{ℕ, ◌+◌, ◌*◌, ◌≤◌, ◌-◌, ◌<◌}
+use mathlib.Core.Path.{◌≡◌, refl}
 use native.Mathlib.Omega.{arith}
-use lib.Dec.{eqb}
-use lib.ListN.{length, get_or}
-use Rattle.rules.specs.Record.{absent}
 use Rattle.record.specs.Layout.{defined_at}
-use Rattle.record.specs.Flat.{Long}
-use Rattle.states.specs.States.{Roomy, handed_in}
-use Rattle.states.proofs.Spans.{Span, span_none, span_store}
+use Rattle.states.proofs.Spans.{span_none}
 use borrow.Author.Rules.{rules}
 use Rattle.states.proofs.handed.begin_empty.Goals as goal
 

@@ -1,11 +1,11 @@
-use mathlib.Core.Path.{◌≡◌, refl, sym, ◌∙◌}
-use Prim.Native.Nat.{◌+◌, ◌≤◌, ◌-◌}
+use mathlib.Core.Path.{◌≡◌, sym, ◌∙◌}
+use Prim.Native.Nat.{◌+◌}
 use native.Mathlib.Omega.{arith}
-use lib.ListN.{length, get_or, length-set}
+use lib.ListN.{get_or, length-set}
 use Rattle.states.specs.Layout.{known_size}
 use Rattle.record.specs.Layout.{held_at}
 use Rattle.states.specs.States.{handed_in}
-use Rattle.states.proofs.Spans.{Span, span_none, span_store}
+use Rattle.states.proofs.Spans.{span_none, span_store}
 use Rattle.states.proofs.Cells.{fits_below, fits_room, marked, unset_sets}
 use Rattle.states.proofs.FirstStates.{first_known}
 use borrow.Author.Rules.{rules}

@@ -1,14 +1,9 @@
-use mathlib.Core.Path.{◌≡◌, refl, sym, ◌∙◌}
 use Prim.Native.Nat.{◌+◌, ◌≤◌, ◌-◌}
-use native.Mathlib.Omega.{arith}
-use lib.ListN.{length, get_or, length-set}
+use lib.ListN.{length, get_or}
 use Rattle.states.specs.Layout.{known_size}
 use Rattle.record.specs.Layout.{held_at}
 use Rattle.states.specs.States.{handed_in}
-use Rattle.states.proofs.Spans.{Span, span_none, span_store}
-use Rattle.states.proofs.Cells.{fits_below, fits_room, marked, unset_sets}
-use Rattle.states.proofs.FirstStates.{first_known}
-use borrow.Author.Rules.{rules}
+use Rattle.states.proofs.Spans.{Span}
 use Rattle.states.proofs.handed.first_state.Given as goal
 
 abbrev pub invariant-loop-i : goal.invariant-loop-i

@@ -1,6 +1,5 @@
 use native.Mathlib.Omega.{arith}
 use Rattle.states.proofs.Cells.{fits_long, fits_far}
-use borrow.Author.Rules.{rules}
 use Rattle.states.proofs.handed.fits.Goals as goal
 
 pub returns-then-b-lt-LIMIT : goal.returns-then-b-lt-LIMIT

@@ -1,4 +1,3 @@
-use borrow.Author.Rules.{rules}
 use Rattle.states.proofs.handed.gone.Goals as goal
 
 pub returns-else-went : goal.returns-else-went

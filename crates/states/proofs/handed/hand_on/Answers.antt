@@ -1,14 +1,6 @@
-use mathlib.Core.Path.{◌≡◌, refl}
-use Prim.Native.Nat.{ℕ, ◌≤◌, ◌-◌}
+use mathlib.Core.Path.{refl}
 use native.Mathlib.Omega.{arith}
-use lib.ListN.{length, take}
 use Rattle.laws.specs.Fold.{run}
-use Rattle.rules.specs.Sheet.{block_count, succs_of}
-use Rattle.rules.specs.Forward.{Handed, hand_to}
-use Rattle.table.specs.Sheet.{sheet_in}
-use Rattle.table.specs.Index.{Ready}
-use Rattle.record.specs.Flat.{Long, record_in}
-use Rattle.states.specs.States.{Lies}
 use Rattle.states.proofs.HandingOn.{hand_next, hand_end}
 use borrow.Author.Rules.{rules}
 use Rattle.states.proofs.handed.hand_on.Goals as goal

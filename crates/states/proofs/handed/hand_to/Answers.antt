@@ -1,7 +1,6 @@
 use mathlib.Core.Path.{refl, sym, ◌∙◌}
 use Rattle.table.proofs.Loops.{never}
 use Rattle.states.proofs.HandingOn.{hand_met, hand_first}
-use borrow.Author.Rules.{rules}
 use Rattle.states.proofs.handed.hand_to.Goals as goal
 
 pub returns-then-meet : goal.returns-then-meet

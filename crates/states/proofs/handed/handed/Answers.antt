@@ -1,5 +1,4 @@
 use Rattle.states.proofs.FirstStates.{handed_none, handed_yes, handed_no}
-use borrow.Author.Rules.{rules}
 use Rattle.states.proofs.handed.handed.Goals as goal
 
 pub returns-then-v-eq-NONE : goal.returns-then-v-eq-NONE

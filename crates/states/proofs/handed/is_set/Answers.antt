@@ -1,7 +1,6 @@
 use native.Mathlib.Omega.{arith}
 use mathlib.Core.Path.{sym, ◌∙◌}
 use Rattle.states.proofs.Cells.{fits_below, fits_room, set_hit, set_miss}
-use borrow.Author.Rules.{rules}
 use Rattle.states.proofs.handed.is_set.Goals as goal
 
 pub bounds-states-b : goal.bounds-states-b

@@ -1,10 +1,8 @@
-use Rattle.states.proofs.Meeting.{met_at, met_next, met, unmet}
-use mathlib.Core.Path.{◌≡◌, refl, sym, ◌∙◌}
-use Prim.Native.Nat.{◌+◌, ◌≤◌, ◌-◌}
+use Rattle.states.proofs.Meeting.{met_next, met, unmet}
+use mathlib.Core.Path.{◌≡◌, sym, ◌∙◌}
 use native.Mathlib.Omega.{arith}
-use lib.ListN.{length, get_or}
 use Rattle.states.specs.Layout.{known_size, state_at}
-use Rattle.states.proofs.Spans.{Span, span_none, Kept, kept_none}
+use Rattle.states.proofs.Spans.{span_none, kept_none}
 use Rattle.states.proofs.Cells.{fits_room}
 use borrow.Author.Rules.{rules}
 use Rattle.states.proofs.handed.meet.Goals as goal

@@ -1,12 +1,8 @@
-use Rattle.states.proofs.Meeting.{met_at, met_next, met, unmet}
-use mathlib.Core.Path.{◌≡◌, refl, sym, ◌∙◌}
+use Rattle.states.proofs.Meeting.{met_at}
 use Prim.Native.Nat.{◌+◌, ◌≤◌, ◌-◌}
-use native.Mathlib.Omega.{arith}
 use lib.ListN.{length, get_or}
-use Rattle.states.specs.Layout.{known_size, state_at}
-use Rattle.states.proofs.Spans.{Span, span_none, Kept, kept_none}
-use Rattle.states.proofs.Cells.{fits_room}
-use borrow.Author.Rules.{rules}
+use Rattle.states.specs.Layout.{known_size}
+use Rattle.states.proofs.Spans.{Span, Kept}
 use Rattle.states.proofs.handed.meet.Given as goal
 
 abbrev pub invariant-loop-i : goal.invariant-loop-i

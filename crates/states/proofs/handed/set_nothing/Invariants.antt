@@ -1,13 +1,8 @@
-use mathlib.Core.Path.{◌≡◌, refl, sym, ◌∙◌}
 use Prim.Native.Nat.{◌+◌, ◌≤◌, ◌-◌}
-use native.Mathlib.Omega.{arith}
-use lib.ListN.{length, length-set}
+use lib.ListN.{length}
 use Rattle.states.specs.Layout.{known_size}
 use Rattle.rules.specs.Record.{absent}
-use Rattle.states.proofs.Spans.{Span, span_none, span_store}
-use Rattle.states.proofs.Cells.{fits_below, fits_room, marked, unset_sets}
-use Rattle.states.proofs.FirstStates.{nothing_known}
-use borrow.Author.Rules.{rules}
+use Rattle.states.proofs.Spans.{Span}
 use Rattle.states.proofs.handed.set_nothing.Given as goal
 
 abbrev pub invariant-loop-i : goal.invariant-loop-i

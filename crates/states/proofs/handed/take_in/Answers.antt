@@ -5,7 +5,6 @@ use Rattle.table.specs.Sheet.{sheet_in}
 use Rattle.states.specs.States.{is_set}
 use Rattle.states.proofs.TakingIn.{takes, takes_nothing}
 use Rattle.states.proofs.Cells.{set_fits}
-use borrow.Author.Rules.{rules}
 use Rattle.states.proofs.handed.take_in.Goals as goal
 
 pub returns-then-is_set : goal.returns-then-is_set

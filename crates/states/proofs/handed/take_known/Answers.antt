@@ -1,11 +1,7 @@
 use mathlib.Core.Path.{◌≡◌, refl, sym, ◌∙◌}
-use Prim.Native.Nat.{◌+◌, ◌≤◌, ◌-◌}
 use native.Mathlib.Omega.{arith}
-use lib.ListN.{length, get_or}
 use Rattle.states.specs.Layout.{known_size}
-use Rattle.record.specs.Layout.{held_at}
-use Rattle.record.specs.Flat.{Long}
-use Rattle.states.proofs.Spans.{Span, span_none, span_store}
+use Rattle.states.proofs.Spans.{span_none, span_store}
 use Rattle.states.proofs.Cells.{fits_room}
 use Rattle.states.proofs.TakingIn.{taken}
 use Rattle.table.proofs.Loops.{never}

@@ -1,15 +1,9 @@
-use mathlib.Core.Path.{◌≡◌, refl, sym, ◌∙◌}
 use Prim.Native.Nat.{◌+◌, ◌≤◌, ◌-◌}
-use native.Mathlib.Omega.{arith}
 use lib.ListN.{length, get_or}
 use Rattle.states.specs.Layout.{known_size}
 use Rattle.record.specs.Layout.{held_at}
 use Rattle.record.specs.Flat.{Long}
-use Rattle.states.proofs.Spans.{Span, span_none, span_store}
-use Rattle.states.proofs.Cells.{fits_room}
-use Rattle.states.proofs.TakingIn.{taken}
-use Rattle.table.proofs.Loops.{never}
-use borrow.Author.Rules.{rules}
+use Rattle.states.proofs.Spans.{Span}
 use Rattle.states.proofs.handed.take_known.Given as goal
 
 abbrev pub invariant-loop-i : goal.invariant-loop-i

@@ -1,15 +1,12 @@
 use Rattle.rules.specs.Sheet.{reg_count}
-use mathlib.Core.Path.{◌≡◌, refl, sym, ap, ◌∙◌}
+use mathlib.Core.Path.{◌≡◌, refl}
 use native.Mathlib.Omega.{arith}
 use Rattle.laws.specs.Fold.{run}
 use Rattle.laws.specs.Lists.{from}
 use Rattle.table.specs.Sheet.{sheet_in}
 use Rattle.table.proofs.Sheets.{regs_are, long_of}
-use Rattle.record.specs.Flat.{Long, Becomes, record_in}
-use Rattle.rules.specs.Forward.{write_held}
 use Rattle.states.proofs.TakingIn.{writes_next}
 use borrow.Author.Rules.{rules}
-use Prim.Native.Nat.{◌≤◌, ◌-◌}
 use Rattle.states.proofs.handed.write_all_held.Goals as goal
 
 pub loop-r-init : goal.loop-r-init

@@ -1,6 +1,5 @@
 use Rattle.table.specs.Sheet.{sheet_in}
 use Rattle.states.proofs.TakingIn.{held_written, held_not}
-use borrow.Author.Rules.{rules}
 use Rattle.states.proofs.handed.write_held.Goals as goal
 
 pub returns-then-v-ne-NONE : goal.returns-then-v-ne-NONE

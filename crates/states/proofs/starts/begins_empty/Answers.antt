@@ -1,9 +1,8 @@
-use mathlib.Core.Path.{◌≡◌, sym, ap, ◌∙◌}
+use mathlib.Core.Path.{sym, ap, ◌∙◌}
 use lib.Dec.{leb}
 use Rattle.laws.specs.Lists.{any}
 use Rattle.table.specs.Sheet.{sheet_in}
 use Rattle.states.proofs.Starting.{empty_entry, empty_few, empty_many}
-use borrow.Author.Rules.{rules}
 use Rattle.states.proofs.starts.begins_empty.Goals as goal
 
 pub returns-then-is_entry : goal.returns-then-is_entry

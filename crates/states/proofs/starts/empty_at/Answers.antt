@@ -2,7 +2,6 @@ use mathlib.Core.Path.{sym, ◌∙◌}
 use Rattle.rules.specs.Forward.{begins_empty}
 use Rattle.table.specs.Sheet.{sheet_in}
 use Rattle.states.proofs.Starting.{start_yes, start_no}
-use borrow.Author.Rules.{rules}
 use Rattle.states.proofs.starts.empty_at.Goals as goal
 
 pub returns-then-begins_empty : goal.returns-then-begins_empty

@@ -2,7 +2,6 @@ use mathlib.Core.Path.{sym, ◌∙◌}
 use Rattle.rules.specs.Accept.{is_entry}
 use Rattle.table.specs.Sheet.{sheet_in}
 use Rattle.states.proofs.Starting.{start_yes, start_no, waits_yes, waits_no}
-use borrow.Author.Rules.{rules}
 use Rattle.states.proofs.starts.entry_at.Goals as goal
 
 pub returns-then-is_entry : goal.returns-then-is_entry

@@ -1,15 +1,10 @@
-use mathlib.Core.Path.{◌≡◌, refl}
+use mathlib.Core.Path.{◌≡◌}
 use Prim.Native.Nat.{ℕ, ◌≤◌, ◌-◌}
-use native.Mathlib.Omega.{arith}
 use lib.ListN.{length}
-use Rattle.rules.specs.Sheet.{block_count}
 use Rattle.rules.specs.Forward.{begins_empty}
 use Rattle.table.specs.Sheet.{sheet_in}
 use Rattle.table.specs.Index.{Ready}
-use Rattle.table.proofs.Sheets.{blocks_are, long_of}
 use Rattle.states.specs.States.{Unset, Started}
-use Rattle.states.proofs.Starting.{start_none, forward_starts}
-use borrow.Author.Rules.{rules}
 use Rattle.states.proofs.starts.forward_start.Given as goal
 
 abbrev pub invariant-loop-b : goal.invariant-loop-b

@@ -1,14 +1,9 @@
-use mathlib.Core.Path.{◌≡◌, refl}
+use mathlib.Core.Path.{◌≡◌}
 use Prim.Native.Nat.{ℕ, ◌≤◌, ◌-◌}
-use native.Mathlib.Omega.{arith}
 use lib.ListN.{length}
-use Rattle.rules.specs.Sheet.{block_count}
 use Rattle.rules.specs.Accept.{is_entry}
 use Rattle.table.specs.Sheet.{sheet_in}
-use Rattle.table.proofs.Sheets.{blocks_are, long_of}
 use Rattle.states.specs.States.{Unset, Started, Waits}
-use Rattle.states.proofs.Starting.{start_none, waits_none, global_starts}
-use borrow.Author.Rules.{rules}
 use Rattle.states.proofs.starts.global_start.Given as goal
 
 abbrev pub invariant-loop-b : goal.invariant-loop-b

@@ -1,12 +1,9 @@
-use mathlib.Core.Path.{◌≡◌, refl, sym, ◌∙◌}
+use mathlib.Core.Path.{◌≡◌}
 use lib.Dec.{leb}
 use lib.ListN.{drop}
-use borrow.Author.Tests.{le-leb, lt-leb}
 use Rattle.laws.specs.Lists.{any}
-use Rattle.table.proofs.Loops.{any_true_in, any_next_in, any_end_in}
-use borrow.Author.Rules.{rules}
 use lib.ListN.{length}
-use Prim.Native.Nat.{◌≤◌, ◌-◌}
+use Prim.Native.Nat.{◌-◌}
 use Rattle.states.proofs.starts.some_later.Given as goal
 
 abbrev pub invariant-loop-k : goal.invariant-loop-k

@@ -1,0 +1,17 @@
+use mathlib.Core.Path.{◌≡◌}
+use mathlib.Core.List.{map}
+use Prim.Native.Nat.{◌-◌, ◌≤◌}
+use native.Mathlib.Omega.{arith}
+use borrow.Author.Rules.{rules}
+use Rattle.laws.specs.Lists.{from}
+use Rattle.table.specs.Sheet.{sheet_in}
+use Rattle.table.specs.View.{op_row}
+use Rattle.folding.specs.Folds.{told}
+use Rattle.folding.proofs.Telling.{told_none, told_next, told_all}
+use Rattle.folding.proofs.tell.Given as goal
+
+abbrev pub invariant-loop-n : goal.invariant-loop-n
+invariant-loop-n l = (l.initial.n ≤ l.n) × (l.n - l.initial.n ≤ l.to - l.initial.n) × (l.x ≡ told (sheet_in l.t) (map (op_row (sheet_in l.t)) (from l.initial.n (l.n - l.initial.n))))
+
+abbrev pub decreases-loop-n : goal.decreases-loop-n
+decreases-loop-n l = l.to - l.n
