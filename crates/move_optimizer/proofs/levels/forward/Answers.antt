@@ -1,0 +1,24 @@
+use borrow.Author.Rules.{rules}
+use mathlib.Core.Path.{◌≡◌, refl}
+use Prim.Native.Nat.{ℕ, ◌+◌, ◌-◌, ◌*◌}
+use lib.ListN.{length}
+use Rattle.laws.specs.Fold.{run}
+use Rattle.laws.specs.Lists.{from}
+use Rattle.rules.specs.Forward.{Walk, Handed, forward_block, forward_start}
+use Rattle.table.specs.Sheet.{sheet_in}
+use Rattle.table.proofs.Sheets.{blocks_counted}
+use Rattle.holders.specs.Holders.{Filled}
+use Rattle.moves.specs.Walks.{Ordered, block_most}
+use Rattle.move_optimizer.specs.Levels.{Stands}
+use Rattle.move_optimizer.proofs.BlockWalks.{Passing, passing_start}
+use Rattle.move_optimizer.proofs.LevelWalks.{forward_begin, forward_next, forward_end}
+use Rattle.move_optimizer.proofs.levels.forward.Goals as goal
+
+pub loop-b-init : goal.loop-b-init
+loop-b-init c = (search rules, refl, refl, refl, λ o f m x y. passing_start _ _ _ _ _ x y)
+
+pub loop-b-preserved : goal.loop-b-preserved
+loop-b-preserved c = (search rules, search rules, search rules, search rules, λ o f m x y. forward_next c.loop-b-test.true (blocks_counted _ c.count-n.ensures) (c.optimise_handed.ensures o f) (c.hand_on-w.ensures o.ready) (c.loop-b.invariant.4 o f m x y))
+
+pub returns : goal.returns
+returns c = λ o f u n w x. forward_end w (blocks_counted _ c.count-n.ensures) c.loop-b-test.false (c.loop-b.invariant.4 o f n (w, forward_start _) (forward_begin o.ready (blocks_counted _ c.count-n.ensures) (c.forward_start.ensures o.ready u _ c.empty-w.ensures) n w x))

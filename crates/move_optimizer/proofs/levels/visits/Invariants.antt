@@ -1,0 +1,20 @@
+use borrow.Author.Rules.{rules}
+use mathlib.Core.Path.{◌≡◌, refl, sym, ◌∙◌}
+use mathlib.Core.List.{List}
+use Prim.Native.Nat.{ℕ, ◌+◌, ◌-◌}
+use native.Mathlib.Omega.{arith}
+use lib.ListN.{length}
+use Rattle.rules.specs.Forward.{Walk, Handed, visits, global_start}
+use Rattle.table.specs.Sheet.{sheet_in}
+use Rattle.visiting.proofs.Loops.{capped}
+use Rattle.moves.specs.Walks.{Ordered}
+use Rattle.moves.proofs.Walks.{walked_fewer}
+use Rattle.move_optimizer.specs.Levels.{Stands}
+use Rattle.move_optimizer.proofs.Visits.{Walking, walking_start, walking_again, walking_stop, walking_out}
+use Rattle.move_optimizer.proofs.levels.visits.Given as goal
+
+abbrev pub invariant-loop-k : goal.invariant-loop-k
+invariant-loop-k l = (length l.states ≡ length l.initial.states) × (length l.counts ≡ length l.initial.counts) × (Ordered l.t → (places : List ℕ) (n : ℕ) (wh : Walk × Handed) → Stands l.t l.initial.rec l.initial.states l.edits places l.initial.counts l.initial.w.0 (n + l.most) wh → Walking l.t l.rec l.states l.edits places l.counts l.w.0 n (l.most - l.k) (visits (sheet_in l.t) l.most wh))
+
+abbrev pub decreases-loop-k : goal.decreases-loop-k
+decreases-loop-k l = l.most - l.k
