@@ -17,7 +17,6 @@ use Rattle.entity.specs.declared.numbers.PhysReg.{PhysReg}
 use Rattle.entity.specs.declared.numbers.RegClass.{RegClass}
 use Rattle.entity.specs.declared.numbers.OperandIndex.{OperandIndex}
 use Rattle.entity.specs.declared.sets.FoundReg.{FoundReg}
-use Rattle.entity.specs.declared.sets.FoundReg.TheVariants as FoundReg
 use Rattle.entity.specs.declared.forms.Place.{Place}
 use Rattle.entity.specs.declared.forms.Place.TheVariants.{Reg}
 use Rattle.entity.specs.declared.forms.Constraint.{Constraint}

@@ -18,7 +18,6 @@ use Rattle.entity.specs.declared.forms.Constraint.{Constraint}
 use Rattle.entity.specs.declared.forms.Constraint.TheVariants.{Class, Fixed, Reuse}
 use Rattle.rules.specs.Sheet.{Sheet, OpRow, is_early}
 use Rattle.rules.specs.Accept.{reuse_within, operands_at}
-use Rattle.rules.specs.Record.{Record}
 use Rattle.rules.specs.Forward.{Walk, early_defs, define_all, reused, indexed, fold}
 use Rattle.rules.proofs.Refusals.{in_limits}
 use Rattle.table.specs.Layout.{op_index}

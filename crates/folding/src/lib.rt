@@ -1,4 +1,6 @@
 // An instruction in the optimising walk, with its folds, and in the preparing walk.
+#![tactic(auto)]
+
 ghost use Rattle.std.specs.Prelude.{◌≡◌, Bool, ◌||◌, ℕ, ◌+◌};
 ghost use mathlib.Core.List.{List, [], ◌∷◌, ◌++◌, flat_map};
 ghost use Rattle.laws.specs.Fold.{run};

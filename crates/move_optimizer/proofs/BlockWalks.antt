@@ -21,7 +21,7 @@ use Rattle.rules.specs.Forward.{Walk, with_rec, edits_at, optimise_edit, optimis
 use Rattle.rules.proofs.Refusals.{in_limits}
 use Rattle.table.specs.Layout.{inst_index, param_index}
 use Rattle.table.specs.Sheet.{rows_at, sheet_in}
-use Rattle.table.specs.Index.{before, range_in, Ready}
+use Rattle.table.specs.Index.{range_in, Ready}
 use Rattle.table.specs.View.{param_row, param_of}
 use Rattle.table.specs.declared.index.Range.{Range}
 use Rattle.table.specs.declared.view.Param.{Param}

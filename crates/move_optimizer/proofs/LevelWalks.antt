@@ -13,7 +13,6 @@ use Rattle.laws.specs.Lists.{from}
 use Rattle.bits.specs.declared.sets.NumberSet.{NumberSet}
 use Rattle.entity.specs.declared.forms.Edit.{Edit}
 use Rattle.entity.specs.declared.forms.Level.{Level}
-use Rattle.entity.specs.declared.forms.Level.TheVariants as Level
 use Rattle.rules.specs.Sheet.{Sheet, block_count}
 use Rattle.rules.specs.Record.{Record, Known, nothing}
 use Rattle.rules.specs.Forward.{Walk, Handed, with_rec, take_in, enter, begun, optimise_block, prepare_block, hand_on, forward_block, forward_start, optimise_all, visits, most_visits, global_start, global_walk, optimise}

@@ -21,7 +21,6 @@ use Rattle.bits.specs.Sets.{has, set_of, set_limit}
 use Rattle.bits.specs.declared.sets.NumberSet.{NumberSet}
 use Rattle.entity.specs.Limits.{block_limit}
 use Rattle.entity.specs.declared.sets.FoundBlock.{FoundBlock}
-use Rattle.entity.specs.declared.sets.FoundBlock.TheVariants as FoundBlock
 use Rattle.rules.specs.Sheet.{Sheet, block_count, succs_of}
 use Rattle.rules.specs.Record.{Known, nothing}
 use Rattle.rules.specs.Forward.{Walk, Handed, count, take_in, begun, prepare_block, hand_on, visit, visits}

@@ -1,4 +1,3 @@
-use borrow.Author.Rules.{rules}
 use Rattle.rules.specs.Accept.{operands_at}
 use Rattle.table.specs.Sheet.{sheet_in}
 use Rattle.definitions.specs.Definitions.{taken}

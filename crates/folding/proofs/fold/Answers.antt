@@ -1,4 +1,3 @@
-use borrow.Author.Rules.{rules}
 use Rattle.folding.proofs.Folding.{not_folded, folded}
 use Rattle.folding.proofs.fold.Goals as goal
 

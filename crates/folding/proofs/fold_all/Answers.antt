@@ -1,11 +1,6 @@
-use mathlib.Core.Path.{◌≡◌, refl}
-use Prim.Native.Nat.{◌-◌, ◌≤◌}
+use mathlib.Core.Path.{refl}
 use native.Mathlib.Omega.{arith}
-use lib.ListN.{length}
-use borrow.Author.Rules.{rules}
-use Rattle.folding.proofs.Instructions.{Passed, rows_none, rows_on, rows_end, rows_stay}
-use mathlib.Core.Path.{ap}
-use mathlib.Core.Bool.{not}
+use Rattle.folding.proofs.Instructions.{rows_none, rows_on, rows_end, rows_stay}
 use Rattle.folding.proofs.fold_all.Goals as goal
 
 pub returns-then-not-x : goal.returns-then-not-x
@@ -16,13 +11,13 @@ loop-n-init c = let a = c.args in (omega arith, omega arith, refl, refl, rows_no
 
 pub loop-n-preserved : goal.loop-n-preserved
 loop-n-preserved c = let g = c.loop-n in (
-      omega arith,
-      omega arith,
-      omega arith,
-      omega arith,
-      rows_on g.invariant.4 c.less-k.ensures c.contains-tied.ensures
-          c.fold.ensures (omega arith) (omega arith),
-    )
+  omega arith,
+  omega arith,
+  omega arith,
+  omega arith,
+  rows_on g.invariant.4 c.less-k.ensures c.contains-tied.ensures
+      c.fold.ensures (omega arith) (omega arith),
+)
 
 pub returns : goal.returns
 returns c = let g = c.loop-n in let a = c.args in λ r f i e q. rows_end g.invariant.4 (omega arith) (omega arith) (omega arith) r f i e a.x refl q

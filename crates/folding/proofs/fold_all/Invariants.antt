@@ -1,9 +1,7 @@
-use mathlib.Core.Path.{◌≡◌, refl}
+use mathlib.Core.Path.{◌≡◌}
 use Prim.Native.Nat.{◌-◌, ◌≤◌}
-use native.Mathlib.Omega.{arith}
 use lib.ListN.{length}
-use borrow.Author.Rules.{rules}
-use Rattle.folding.proofs.Instructions.{Passed, rows_none, rows_on, rows_end, rows_stay}
+use Rattle.folding.proofs.Instructions.{Passed}
 use Rattle.folding.proofs.fold_all.Given as goal
 
 abbrev pub invariant-loop-n : goal.invariant-loop-n

@@ -1,6 +1,4 @@
 use mathlib.Core.Path.{sym, ap, ◌∙◌}
-use borrow.Author.Rules.{rules}
-use borrow.Author.Tests.{not-true, not-false}
 use Rattle.rules.specs.Sheet.{subject_of}
 use Rattle.record.specs.Flat.{record_in}
 use Rattle.table.specs.Sheet.{sheet_in}

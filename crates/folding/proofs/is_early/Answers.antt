@@ -1,4 +1,3 @@
-use borrow.Author.Rules.{rules}
 use Rattle.rules.specs.Sheet.{is_early}
 use Rattle.folding.proofs.is_early.Goals as goal
 

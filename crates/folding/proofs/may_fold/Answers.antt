@@ -1,5 +1,4 @@
 use mathlib.Core.Path.{sym, ◌∙◌}
-use borrow.Author.Rules.{rules}
 use Rattle.rules.specs.Sheet.{is_use}
 use Rattle.folding.specs.Folds.{may_fold}
 use Rattle.folding.proofs.may_fold.Goals as goal

@@ -1,5 +1,4 @@
 use mathlib.Core.List.{flat_map}
-use borrow.Author.Rules.{rules}
 use Rattle.rules.specs.Accept.{operands_at}
 use Rattle.rules.specs.Forward.{with_rec, early_defs, other_defs, define_all, clobber, optimise_inst}
 use Rattle.table.specs.Sheet.{sheet_in}

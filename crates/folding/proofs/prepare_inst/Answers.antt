@@ -1,5 +1,4 @@
 use mathlib.Core.List.{flat_map}
-use borrow.Author.Rules.{rules}
 use Rattle.rules.specs.Accept.{operands_at}
 use Rattle.rules.specs.Forward.{all_defs, define_all, clobber, prepare_inst}
 use Rattle.table.specs.Sheet.{sheet_in}

@@ -1,13 +1,10 @@
 use mathlib.Core.Path.{◌≡◌}
 use mathlib.Core.List.{map}
 use Prim.Native.Nat.{◌-◌, ◌≤◌}
-use native.Mathlib.Omega.{arith}
-use borrow.Author.Rules.{rules}
 use Rattle.laws.specs.Lists.{from}
 use Rattle.table.specs.Sheet.{sheet_in}
 use Rattle.table.specs.View.{op_row}
 use Rattle.folding.specs.Folds.{told}
-use Rattle.folding.proofs.Telling.{told_none, told_next, told_all}
 use Rattle.folding.proofs.tell.Given as goal
 
 abbrev pub invariant-loop-n : goal.invariant-loop-n

@@ -1,6 +1,4 @@
 use mathlib.Core.Path.{refl, ap, ◌∙◌}
-use mathlib.Core.Logic.{⊎_elim}
-use borrow.Author.Rules.{rules}
 use Rattle.table.specs.Sheet.{sheet_in}
 use Rattle.table.specs.View.{op_row}
 use Rattle.rules.specs.Sheet.{is_early}

@@ -1,4 +1,3 @@
-use borrow.Author.Rules.{rules}
 use Rattle.rules.specs.Sheet.{subject_of}
 use Rattle.folding.proofs.value_of.Goals as goal
 

@@ -1,4 +1,3 @@
-use borrow.Author.Rules.{rules}
 use Rattle.folding.proofs.Telling.{no_reuse, one_reuse}
 use Rattle.folding.proofs.with_reuse.Goals as goal
 

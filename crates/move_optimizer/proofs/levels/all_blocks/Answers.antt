@@ -1,7 +1,6 @@
 use native.Mathlib.Omega.{arith}
 use Rattle.entity.specs.Limits.{block_limit}
 use Rattle.move_optimizer.proofs.Tables.{made_unset, handed_few}
-use borrow.Author.Rules.{rules}
 use Rattle.move_optimizer.proofs.levels.all_blocks.Goals as goal
 
 pub returns : goal.returns

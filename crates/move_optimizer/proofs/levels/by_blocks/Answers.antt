@@ -1,4 +1,3 @@
-use borrow.Author.Rules.{rules}
 use native.Mathlib.Omega.{arith}
 use Rattle.move_optimizer.proofs.levels.by_blocks.Goals as goal
 

@@ -1,11 +1,9 @@
-use borrow.Author.Rules.{rules}
 use Prim.Native.Nat.{◌-◌}
 use Rattle.laws.specs.Fold.{run}
 use Rattle.laws.specs.Lists.{from}
 use Rattle.table.specs.Index.{Ready}
 use Rattle.record.specs.Flat.{Long, record_in}
-use Rattle.record.proofs.Changes.{becomes_same}
-use Rattle.move_optimizer.proofs.BlockWalks.{Passing, passing_start, Became, defines, entered_next, entered_end}
+use Rattle.move_optimizer.proofs.BlockWalks.{Passing, Became, defines}
 use Rattle.move_optimizer.proofs.levels.enter.Given as goal
 
 abbrev pub invariant-loop-n : goal.invariant-loop-n

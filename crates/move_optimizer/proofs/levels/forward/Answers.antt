@@ -1,16 +1,8 @@
 use borrow.Author.Rules.{rules}
-use mathlib.Core.Path.{◌≡◌, refl}
-use Prim.Native.Nat.{ℕ, ◌+◌, ◌-◌, ◌*◌}
-use lib.ListN.{length}
-use Rattle.laws.specs.Fold.{run}
-use Rattle.laws.specs.Lists.{from}
-use Rattle.rules.specs.Forward.{Walk, Handed, forward_block, forward_start}
-use Rattle.table.specs.Sheet.{sheet_in}
+use mathlib.Core.Path.{refl}
+use Rattle.rules.specs.Forward.{forward_start}
 use Rattle.table.proofs.Sheets.{blocks_counted}
-use Rattle.holders.specs.Holders.{Filled}
-use Rattle.moves.specs.Walks.{Ordered, block_most}
-use Rattle.move_optimizer.specs.Levels.{Stands}
-use Rattle.move_optimizer.proofs.BlockWalks.{Passing, passing_start}
+use Rattle.move_optimizer.proofs.BlockWalks.{passing_start}
 use Rattle.move_optimizer.proofs.LevelWalks.{forward_begin, forward_next, forward_end}
 use Rattle.move_optimizer.proofs.levels.forward.Goals as goal
 

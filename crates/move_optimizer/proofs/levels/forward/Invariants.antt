@@ -1,17 +1,14 @@
-use borrow.Author.Rules.{rules}
-use mathlib.Core.Path.{◌≡◌, refl}
+use mathlib.Core.Path.{◌≡◌}
 use Prim.Native.Nat.{ℕ, ◌+◌, ◌-◌, ◌*◌}
 use lib.ListN.{length}
 use Rattle.laws.specs.Fold.{run}
 use Rattle.laws.specs.Lists.{from}
-use Rattle.rules.specs.Forward.{Walk, Handed, forward_block, forward_start}
+use Rattle.rules.specs.Forward.{Walk, Handed, forward_block}
 use Rattle.table.specs.Sheet.{sheet_in}
-use Rattle.table.proofs.Sheets.{blocks_counted}
 use Rattle.holders.specs.Holders.{Filled}
 use Rattle.moves.specs.Walks.{Ordered, block_most}
 use Rattle.move_optimizer.specs.Levels.{Stands}
-use Rattle.move_optimizer.proofs.BlockWalks.{Passing, passing_start}
-use Rattle.move_optimizer.proofs.LevelWalks.{forward_begin, forward_next, forward_end}
+use Rattle.move_optimizer.proofs.BlockWalks.{Passing}
 use Rattle.move_optimizer.proofs.levels.forward.Given as goal
 
 abbrev pub invariant-loop-b : goal.invariant-loop-b

@@ -1,18 +1,10 @@
 use borrow.Author.Rules.{rules}
-use mathlib.Core.Path.{◌≡◌, refl}
-use Prim.Native.Nat.{ℕ, ◌+◌, ◌-◌, ◌*◌}
-use lib.ListN.{length}
-use Rattle.laws.specs.Fold.{run}
-use Rattle.laws.specs.Lists.{from}
-use Rattle.rules.specs.Forward.{Walk, Handed, begun}
-use Rattle.rules.specs.Sheet.{block_count}
-use Rattle.table.specs.Sheet.{sheet_in}
+use mathlib.Core.Path.{refl}
+use Prim.Native.Nat.{◌+◌}
 use Rattle.table.proofs.Sheets.{blocks_counted}
-use Rattle.states.specs.States.{states_in}
-use Rattle.holders.specs.Holders.{Filled}
-use Rattle.moves.specs.Walks.{Ordered, Walked, all_most, block_most}
-use Rattle.move_optimizer.proofs.BlockWalks.{Passing, passing_start}
-use Rattle.move_optimizer.proofs.LevelWalks.{blockwise, block_begun, block_next, global_end}
+use Rattle.moves.specs.Walks.{all_most}
+use Rattle.move_optimizer.proofs.BlockWalks.{passing_start}
+use Rattle.move_optimizer.proofs.LevelWalks.{block_begun, block_next, global_end}
 use Rattle.move_optimizer.proofs.levels.global.Goals as goal
 
 pub loop-b-init : goal.loop-b-init

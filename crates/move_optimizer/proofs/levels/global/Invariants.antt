@@ -1,5 +1,4 @@
-use borrow.Author.Rules.{rules}
-use mathlib.Core.Path.{◌≡◌, refl}
+use mathlib.Core.Path.{◌≡◌}
 use Prim.Native.Nat.{ℕ, ◌+◌, ◌-◌, ◌*◌}
 use lib.ListN.{length}
 use Rattle.laws.specs.Fold.{run}
@@ -7,12 +6,11 @@ use Rattle.laws.specs.Lists.{from}
 use Rattle.rules.specs.Forward.{Walk, Handed, begun}
 use Rattle.rules.specs.Sheet.{block_count}
 use Rattle.table.specs.Sheet.{sheet_in}
-use Rattle.table.proofs.Sheets.{blocks_counted}
 use Rattle.states.specs.States.{states_in}
 use Rattle.holders.specs.Holders.{Filled}
-use Rattle.moves.specs.Walks.{Ordered, Walked, all_most, block_most}
-use Rattle.move_optimizer.proofs.BlockWalks.{Passing, passing_start}
-use Rattle.move_optimizer.proofs.LevelWalks.{blockwise, block_begun, block_next, global_end}
+use Rattle.moves.specs.Walks.{Ordered, Walked, block_most}
+use Rattle.move_optimizer.proofs.BlockWalks.{Passing}
+use Rattle.move_optimizer.proofs.LevelWalks.{blockwise}
 use Rattle.move_optimizer.proofs.levels.global.Given as goal
 
 abbrev pub invariant-loop-b : goal.invariant-loop-b

@@ -2,7 +2,6 @@ use mathlib.Core.Path.{◌∙◌}
 use Rattle.table.specs.Sheet.{sheet_in}
 use Rattle.table.proofs.Sheets.{blocks_counted}
 use Rattle.move_optimizer.proofs.Tables.{none_off, none_local, all_forward, all_global}
-use borrow.Author.Rules.{rules}
 use Rattle.move_optimizer.proofs.levels.handed_blocks.Goals as goal
 
 pub returns-in-Off : goal.returns-in-Off

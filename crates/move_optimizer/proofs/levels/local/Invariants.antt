@@ -1,5 +1,4 @@
-use borrow.Author.Rules.{rules}
-use mathlib.Core.Path.{◌≡◌, refl}
+use mathlib.Core.Path.{◌≡◌}
 use Prim.Native.Nat.{ℕ, ◌+◌, ◌-◌, ◌*◌}
 use lib.ListN.{length}
 use Rattle.laws.specs.Fold.{run}
@@ -7,12 +6,10 @@ use Rattle.laws.specs.Lists.{from}
 use Rattle.rules.specs.Record.{nothing}
 use Rattle.rules.specs.Forward.{Walk}
 use Rattle.table.specs.Sheet.{sheet_in}
-use Rattle.table.proofs.Sheets.{blocks_counted}
 use Rattle.holders.specs.Holders.{Filled}
 use Rattle.moves.specs.Walks.{Ordered, Walked, block_most}
-use Rattle.move_optimizer.proofs.BlockWalks.{Passing, passing_start}
-use Rattle.move_optimizer.proofs.LevelWalks.{blockwise, block_taken, block_next, blocks_start, blocks_end, is_local}
-use Rattle.states.proofs.TakingIn.{nothing_taken}
+use Rattle.move_optimizer.proofs.BlockWalks.{Passing}
+use Rattle.move_optimizer.proofs.LevelWalks.{blockwise}
 use Rattle.move_optimizer.proofs.levels.local.Given as goal
 
 abbrev pub invariant-loop-b : goal.invariant-loop-b

@@ -1,4 +1,3 @@
-use borrow.Author.Rules.{rules}
 use Rattle.move_optimizer.proofs.LevelWalks.{is_off}
 use Rattle.move_optimizer.proofs.levels.optimise.Goals as goal
 

@@ -1,14 +1,6 @@
 use borrow.Author.Rules.{rules}
-use mathlib.Core.Path.{◌≡◌, refl}
-use Prim.Native.Nat.{ℕ, ◌+◌, ◌-◌, ◌*◌}
-use lib.ListN.{length}
-use Rattle.laws.specs.Fold.{run}
-use Rattle.laws.specs.Lists.{from}
-use Rattle.rules.specs.Forward.{Walk}
-use Rattle.table.specs.Sheet.{sheet_in}
-use Rattle.holders.specs.Holders.{Filled}
-use Rattle.moves.specs.Walks.{Ordered, Walked, inst_most}
-use Rattle.move_optimizer.proofs.BlockWalks.{Passing, passing_start, optimises, optimised_start, optimised_next, optimised_end}
+use mathlib.Core.Path.{refl}
+use Rattle.move_optimizer.proofs.BlockWalks.{passing_start, optimised_start, optimised_next, optimised_end}
 use Rattle.move_optimizer.proofs.levels.optimise_block.Goals as goal
 
 pub loop-i-init : goal.loop-i-init
@@ -16,14 +8,14 @@ loop-i-init c = (refl, refl, refl, λ o f n w x. passing_start _ _ _ _ _ w x)
 
 pub loop-i-preserved : goal.loop-i-preserved
 loop-i-preserved c = (
-      search rules,
-      search rules,
-      search rules,
-      λ o f n w x. optimised_next _ c.loop-i-test.true
-          (c.optimise_edits.ensures o f)
-          (c.optimise_inst.ensures o.ready f)
-          (c.loop-i.invariant.3 o f n w x),
-    )
+  search rules,
+  search rules,
+  search rules,
+  λ o f n w x. optimised_next _ c.loop-i-test.true
+      (c.optimise_edits.ensures o f)
+      (c.optimise_inst.ensures o.ready f)
+      (c.loop-i.invariant.3 o f n w x),
+)
 
 pub returns : goal.returns
 returns c = λ o f n w x. optimised_end _ w c.insts_of-rows.ensures c.loop-i-test.false o.ready (c.loop-i.invariant.3 o f n _ (optimised_start _ c.insts_of-rows.ensures o.ready c.enter.ensures n w x))

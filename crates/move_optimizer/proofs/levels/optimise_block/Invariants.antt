@@ -1,5 +1,4 @@
-use borrow.Author.Rules.{rules}
-use mathlib.Core.Path.{◌≡◌, refl}
+use mathlib.Core.Path.{◌≡◌}
 use Prim.Native.Nat.{ℕ, ◌+◌, ◌-◌, ◌*◌}
 use lib.ListN.{length}
 use Rattle.laws.specs.Fold.{run}
@@ -8,7 +7,7 @@ use Rattle.rules.specs.Forward.{Walk}
 use Rattle.table.specs.Sheet.{sheet_in}
 use Rattle.holders.specs.Holders.{Filled}
 use Rattle.moves.specs.Walks.{Ordered, Walked, inst_most}
-use Rattle.move_optimizer.proofs.BlockWalks.{Passing, passing_start, optimises, optimised_start, optimised_next, optimised_end}
+use Rattle.move_optimizer.proofs.BlockWalks.{Passing, optimises}
 use Rattle.move_optimizer.proofs.levels.optimise_block.Given as goal
 
 abbrev pub invariant-loop-i : goal.invariant-loop-i

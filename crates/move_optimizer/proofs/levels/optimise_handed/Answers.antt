@@ -1,4 +1,3 @@
-use borrow.Author.Rules.{rules}
 use Rattle.move_optimizer.proofs.LevelWalks.{block_taken}
 use Rattle.move_optimizer.proofs.levels.optimise_handed.Goals as goal
 

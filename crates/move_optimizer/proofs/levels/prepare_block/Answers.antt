@@ -1,14 +1,8 @@
-use borrow.Author.Rules.{rules}
-use Prim.Native.Nat.{◌-◌}
 use lib.ListN.{length}
-use Rattle.laws.specs.Fold.{run}
-use Rattle.laws.specs.Lists.{from}
 use Rattle.table.specs.Sheet.{sheet_in}
 use Rattle.table.specs.Edits.{edits_in}
-use Rattle.record.specs.Flat.{Long, record_in}
 use Rattle.record.proofs.Changes.{becomes_same}
-use Rattle.moves.specs.Walks.{Ordered}
-use Rattle.move_optimizer.proofs.BlockWalks.{Passing, passing_start, Became, prepares, prepared_next, prepared_end}
+use Rattle.move_optimizer.proofs.BlockWalks.{passing_start, prepared_next, prepared_end}
 use Rattle.move_optimizer.proofs.levels.prepare_block.Goals as goal
 
 pub loop-i-init : goal.loop-i-init

@@ -1,4 +1,3 @@
-use borrow.Author.Rules.{rules}
 use Prim.Native.Nat.{◌-◌}
 use lib.ListN.{length}
 use Rattle.laws.specs.Fold.{run}
@@ -6,9 +5,8 @@ use Rattle.laws.specs.Lists.{from}
 use Rattle.table.specs.Sheet.{sheet_in}
 use Rattle.table.specs.Edits.{edits_in}
 use Rattle.record.specs.Flat.{Long, record_in}
-use Rattle.record.proofs.Changes.{becomes_same}
 use Rattle.moves.specs.Walks.{Ordered}
-use Rattle.move_optimizer.proofs.BlockWalks.{Passing, passing_start, Became, prepares, prepared_next, prepared_end}
+use Rattle.move_optimizer.proofs.BlockWalks.{Passing, Became, prepares}
 use Rattle.move_optimizer.proofs.levels.prepare_block.Given as goal
 
 abbrev pub invariant-loop-i : goal.invariant-loop-i

@@ -1,6 +1,5 @@
 use native.Mathlib.Omega.{arith}
 use Rattle.move_optimizer.proofs.Tables.{made_unset}
-use borrow.Author.Rules.{rules}
 use Rattle.move_optimizer.proofs.levels.some_blocks.Goals as goal
 
 pub returns : goal.returns

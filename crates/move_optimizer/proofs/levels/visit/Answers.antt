@@ -1,5 +1,4 @@
 use Rattle.move_optimizer.proofs.Visits.{visit_exit, visit_on}
-use borrow.Author.Rules.{rules}
 use Rattle.move_optimizer.proofs.levels.visit.Goals as goal
 
 pub returns-then-succs-eq0 : goal.returns-then-succs-eq0

@@ -1,16 +1,10 @@
 use borrow.Author.Rules.{rules}
-use mathlib.Core.Path.{◌≡◌, refl, sym, ◌∙◌}
-use mathlib.Core.List.{List}
-use Prim.Native.Nat.{ℕ, ◌+◌, ◌-◌}
+use mathlib.Core.Path.{refl, sym, ◌∙◌}
 use native.Mathlib.Omega.{arith}
-use lib.ListN.{length}
-use Rattle.rules.specs.Forward.{Walk, Handed, visits, global_start}
-use Rattle.table.specs.Sheet.{sheet_in}
+use Rattle.rules.specs.Forward.{global_start}
 use Rattle.visiting.proofs.Loops.{capped}
-use Rattle.moves.specs.Walks.{Ordered}
 use Rattle.moves.proofs.Walks.{walked_fewer}
-use Rattle.move_optimizer.specs.Levels.{Stands}
-use Rattle.move_optimizer.proofs.Visits.{Walking, walking_start, walking_again, walking_stop, walking_out}
+use Rattle.move_optimizer.proofs.Visits.{walking_start, walking_again, walking_stop, walking_out}
 use Rattle.move_optimizer.proofs.levels.visits.Goals as goal
 
 pub loop-k-init : goal.loop-k-init

@@ -1,16 +1,12 @@
-use borrow.Author.Rules.{rules}
-use mathlib.Core.Path.{◌≡◌, refl, sym, ◌∙◌}
+use mathlib.Core.Path.{◌≡◌}
 use mathlib.Core.List.{List}
 use Prim.Native.Nat.{ℕ, ◌+◌, ◌-◌}
-use native.Mathlib.Omega.{arith}
 use lib.ListN.{length}
-use Rattle.rules.specs.Forward.{Walk, Handed, visits, global_start}
+use Rattle.rules.specs.Forward.{Walk, Handed, visits}
 use Rattle.table.specs.Sheet.{sheet_in}
-use Rattle.visiting.proofs.Loops.{capped}
 use Rattle.moves.specs.Walks.{Ordered}
-use Rattle.moves.proofs.Walks.{walked_fewer}
 use Rattle.move_optimizer.specs.Levels.{Stands}
-use Rattle.move_optimizer.proofs.Visits.{Walking, walking_start, walking_again, walking_stop, walking_out}
+use Rattle.move_optimizer.proofs.Visits.{Walking}
 use Rattle.move_optimizer.proofs.levels.visits.Given as goal
 
 abbrev pub invariant-loop-k : goal.invariant-loop-k

@@ -6,7 +6,6 @@ use Rattle.moves.specs.Walks.{all_most, visit_most}
 use Rattle.moves.proofs.Walks.{written_fewer}
 use Rattle.move_optimizer.proofs.Tables.{made_blank, made_walked, all_forward, all_global}
 use Rattle.move_optimizer.proofs.LevelWalks.{is_off, is_level}
-use borrow.Author.Rules.{rules}
 use Rattle.move_optimizer.proofs.levels.walk.Goals as goal
 
 pub returns-in-Off : goal.returns-in-Off

@@ -1,0 +1,6 @@
+use native.Mathlib.Omega.{arith}
+use borrow.Author.Rules.{rules}
+use Rattle.drifthurdle.proofs.cleaned_small.Goals as goal
+
+pub returns : goal.returns
+returns c = λ g n x y. c.cleaned_in.ensures g n (omega (arith, x)) (omega (arith, y))

@@ -1,0 +1,10 @@
+use Prim.Native.Nat.{◌-◌}
+use native.Mathlib.Omega.{arith}
+use Rattle.drifthurdle.proofs.Loading.{Edits, edits_first, edits_next, edits_done}
+use Rattle.drifthurdle.proofs.load_edits.Given as goal
+
+abbrev pub invariant-loop-n : goal.invariant-loop-n
+invariant-loop-n l = Edits l.t l.initial.edits l.rows l.edits l.n
+
+abbrev pub decreases-loop-n : goal.decreases-loop-n
+decreases-loop-n l = l.rows - l.n
