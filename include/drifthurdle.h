@@ -1,6 +1,6 @@
 /* Drifthurdle: a verified clean-up stage for compilers.
  *
- * Link with target/staticlib/libdrifthurdle.a, made by `rt staticlib drifthurdle`.
+ * Link with target/staticlib/libdrifthurdle.a, made by `bindings/archive`.
  */
 #ifndef DRIFTHURDLE_H
 #define DRIFTHURDLE_H

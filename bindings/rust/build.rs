@@ -10,7 +10,7 @@ fn main() {
     println!("cargo::rerun-if-changed={}", archive.display());
     assert!(
         archive.exists(),
-        "{} is missing: run `rt staticlib drifthurdle` in the project's root, or name the archive by DRIFTHURDLE_LIB",
+        "{} is missing: run `bindings/archive` in the project's root, or name the archive by DRIFTHURDLE_LIB",
         archive.display()
     );
     let (dir, file) = archive.parent().zip(archive.file_name()).expect("an archive stands in a folder");

@@ -34,9 +34,7 @@ use Rattle.table.proofs.Sheets.{sheet_in_is}
 use Rattle.accept.specs.Blocks.{as_checked}
 use Rattle.drifthurdle.specs.Call.{sheet_refusal, TableOf, sheet_answer, as_outcome, Gives}
 use Rattle.accept.specs.declared.blocks.Checked.{Checked}
-use Rattle.accept.specs.declared.blocks.Checked.TheVariants as Checked
 use Rattle.drifthurdle.specs.declared.Outcome.{Outcome}
-use Rattle.drifthurdle.specs.declared.Outcome.TheVariants as Outcome
 
 -- ---- tests
 

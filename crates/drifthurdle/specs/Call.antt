@@ -7,7 +7,6 @@ use Rattle.rules.specs.{Rows.rows_of, Sheet.sheet_of}
 use Rattle.rules.specs.Answer.{Answer, refused, written, first_refusal, checks, checked, buffer}
 use Rattle.table.specs.{Sheet.sheet_in, Index.Ready}
 use Rattle.drifthurdle.specs.declared.Outcome.{Outcome}
-use Rattle.drifthurdle.specs.declared.Outcome.TheVariants as Outcome
 
 -- 1 to 6 and 9 to 12: "Checks go in the table's order, each over the whole sheet; no number is given otherwise."
 unfoldable pub sheet_refusal : List ℕ → Option Refusal

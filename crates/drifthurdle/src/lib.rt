@@ -1,5 +1,7 @@
 // The call for host compilers: a sheet's bytes, level, sweep flag and output buffer. It optimises, then sweeps if the flag is 1, and returns how
 // many bytes it wrote, or minus a refusal's sum of 100 times the row and the number, and then it wrote none. `clean` is the same for callers in Rattle: an enum instead of a number.
+#![tactic(auto)]
+
 ghost use Rattle.std.specs.Prelude.{◌≡◌, true, List, ℕ, ◌*◌, ◌≤◌, ◌<◌, pos, neg_ℤ, length};
 ghost use Rattle.std.proofs.Math.Option.{none, some};
 ghost use Rattle.entity.specs.Forms.{sum_of};

@@ -136,9 +136,9 @@ module _ (sh : Sheet) (o : OpRow) (k : ℕ) (s : Record) (r : ℕ) (e : fold_to 
   fold_use = by_bool (is_use o.kind) (λ q. q) (λ q. some_ne_none e (stays sh o k s (rw q)))
 
 -- a row past the end is no use
-use-within : (sh : Sheet) (n : ℕ) → is_use (op_row sh n).kind ≡ true → n < length sh.ops
+use_within : (sh : Sheet) (n : ℕ) → is_use (op_row sh n).kind ≡ true → n < length sh.ops
 unfolding is_use
-use-within sh n e = by_lt n (length sh.ops) (λ h. h) (λ h. never (rw (get_or-eq_default sh.ops none_row h) at e))
+use_within sh n e = by_lt n (length sh.ops) (λ h. h) (λ h. never (rw (get_or-eq_default sh.ops none_row h) at e))
 
 -- ---- what becomes of the places and the counts
 
@@ -200,7 +200,7 @@ module _ {t rec edits places counts : List ℕ} {m : ℕ} (k n : ℕ) {w : Walk}
       let some-r : fold_to sh o k (record_in rec) ≡ some r.0 = found_is e q in
       let here : fold_to sh o k w.rec ≡ some r.0 = ap (fold_to sh o k) x.is_rec ∙ some-r in
       let small : r.0 < number_limit = omega (arith, fold_small sh o k (record_in rec) r.0 some-r, (in_limits sh g.limits).few_regs) in
-      let in-ops : n < length sh.ops = use-within sh n (fold_use sh o k (record_in rec) r.0 some-r) in
+      let in-ops : n < length sh.ops = use_within sh n (fold_use sh o k (record_in rec) r.0 some-r) in
       let in-places : n < length places = omega (arith, d.place_room) in
       let cell_is : c ≡ reg_mark + r.0 = (rw pr at cell) small in
       let back : place_of c ≡ Reg r = ap place_of cell_is ∙ reg_back r small in

@@ -1,5 +1,4 @@
 use Rattle.drifthurdle.proofs.Refusing.{is_true, is_false, limits_refuse, limits_pass, no_limits, tabled}
-use borrow.Author.Rules.{rules}
 use mathlib.Core.Path.{ap}
 use mathlib.Core.Bool.{not}
 use Rattle.drifthurdle.proofs.check.Goals as goal

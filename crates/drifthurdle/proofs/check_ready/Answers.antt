@@ -1,5 +1,4 @@
 use Rattle.drifthurdle.proofs.Refusing.{is_true, is_false, names_refuse, blocks_refuse, operands_refuse, edits_refuse, all_pass}
-use borrow.Author.Rules.{rules}
 use mathlib.Core.Path.{ap}
 use mathlib.Core.Bool.{not}
 use Rattle.drifthurdle.proofs.check_ready.Goals as goal

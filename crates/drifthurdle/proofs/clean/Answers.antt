@@ -1,5 +1,4 @@
 use Rattle.drifthurdle.proofs.Refusing.{call_refused, call_passed, no_level, no_flag, level_and_flag}
-use borrow.Author.Rules.{rules}
 use Rattle.drifthurdle.proofs.clean.Goals as goal
 
 pub returns-in_default : goal.returns-in_default

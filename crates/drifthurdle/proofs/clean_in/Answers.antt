@@ -1,5 +1,4 @@
 use Rattle.drifthurdle.proofs.Refusing.{check_refused, check_accepted}
-use borrow.Author.Rules.{rules}
 use Rattle.drifthurdle.proofs.clean_in.Goals as goal
 
 pub returns-in-Refused : goal.returns-in-Refused

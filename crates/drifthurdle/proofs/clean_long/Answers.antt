@@ -1,7 +1,6 @@
 use native.Mathlib.Omega.{arith}
 use lib.ListN.{length}
 use Rattle.drifthurdle.proofs.Refusing.{long_enough}
-use borrow.Author.Rules.{rules}
 use Rattle.drifthurdle.proofs.clean_long.Goals as goal
 
 pub returns : goal.returns

@@ -1,7 +1,6 @@
 use native.Mathlib.Omega.{arith}
 use lib.ListN.{length}
 use Rattle.table.proofs.Parts.{room_short}
-use borrow.Author.Rules.{rules}
 use Rattle.drifthurdle.proofs.clean_short.Goals as goal
 
 pub returns : goal.returns

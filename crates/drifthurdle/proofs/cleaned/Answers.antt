@@ -1,5 +1,4 @@
 use native.Mathlib.Omega.{arith}
-use borrow.Author.Rules.{rules}
 use Rattle.drifthurdle.proofs.cleaned.Goals as goal
 
 pub returns-then-count-le64-2 : goal.returns-then-count-le64-2

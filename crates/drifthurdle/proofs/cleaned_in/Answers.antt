@@ -3,7 +3,6 @@ use native.Mathlib.Omega.{arith}
 use Rattle.accepted.proofs.Giving.{gives}
 use Rattle.drifthurdle.proofs.Loading.{storable}
 use Rattle.drifthurdle.proofs.Cleaning.{optimised_written, plain_stands, swept_stands, gives_plain, gives_swept}
-use borrow.Author.Rules.{rules}
 use Rattle.drifthurdle.proofs.cleaned_in.Goals as goal
 
 pub returns-then-swept : goal.returns-then-swept

@@ -1,7 +1,6 @@
 use native.Mathlib.Omega.{arith}
 use Rattle.accepted.proofs.Giving.{gives}
 use Rattle.drifthurdle.proofs.Loading.{edits_fit, places_fit}
-use borrow.Author.Rules.{rules}
 use Rattle.drifthurdle.proofs.cleaned_large.Goals as goal
 
 pub returns : goal.returns

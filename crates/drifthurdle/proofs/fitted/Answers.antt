@@ -1,5 +1,4 @@
 use Rattle.drifthurdle.proofs.Fitting.{sure}
-use borrow.Author.Rules.{rules}
 use Rattle.drifthurdle.proofs.fitted.Goals as goal
 
 pub returns-then-most-out : goal.returns-then-most-out

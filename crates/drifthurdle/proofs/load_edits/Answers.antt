@@ -1,6 +1,4 @@
-use Prim.Native.Nat.{◌-◌}
-use native.Mathlib.Omega.{arith}
-use Rattle.drifthurdle.proofs.Loading.{Edits, edits_first, edits_next, edits_done}
+use Rattle.drifthurdle.proofs.Loading.{edits_first, edits_next, edits_done}
 use Rattle.drifthurdle.proofs.load_edits.Goals as goal
 
 pub loop-n-init : goal.loop-n-init

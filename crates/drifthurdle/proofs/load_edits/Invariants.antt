@@ -1,6 +1,5 @@
 use Prim.Native.Nat.{◌-◌}
-use native.Mathlib.Omega.{arith}
-use Rattle.drifthurdle.proofs.Loading.{Edits, edits_first, edits_next, edits_done}
+use Rattle.drifthurdle.proofs.Loading.{Edits}
 use Rattle.drifthurdle.proofs.load_edits.Given as goal
 
 abbrev pub invariant-loop-n : goal.invariant-loop-n

@@ -1,7 +1,4 @@
-use Prim.Native.Nat.{◌-◌}
-use native.Mathlib.Omega.{arith}
-use borrow.Author.Rules.{rules}
-use Rattle.drifthurdle.proofs.Loading.{Places, places_first, places_next, places_done}
+use Rattle.drifthurdle.proofs.Loading.{places_first, places_next, places_done}
 use Rattle.drifthurdle.proofs.load_places.Goals as goal
 
 pub loop-n-init : goal.loop-n-init

@@ -1,7 +1,5 @@
 use Prim.Native.Nat.{◌-◌}
-use native.Mathlib.Omega.{arith}
-use borrow.Author.Rules.{rules}
-use Rattle.drifthurdle.proofs.Loading.{Places, places_first, places_next, places_done}
+use Rattle.drifthurdle.proofs.Loading.{Places}
 use Rattle.drifthurdle.proofs.load_places.Given as goal
 
 abbrev pub invariant-loop-n : goal.invariant-loop-n

@@ -1,5 +1,4 @@
 use Rattle.drifthurdle.proofs.Fitting.{no_room, room}
-use borrow.Author.Rules.{rules}
 use Rattle.drifthurdle.proofs.measured.Goals as goal
 
 pub returns-then-out-length : goal.returns-then-out-length

@@ -2,7 +2,6 @@ use mathlib.Core.Path.{◌∙◌, ap}
 use Rattle.accept.specs.Blocks.{as_checked}
 use Rattle.sheet.proofs.Answering.{answer_true, answer_false}
 use Rattle.drifthurdle.proofs.Refusing.{is_true, is_false, rows_refuse, rows_pass, rows_ok, one_rows}
-use borrow.Author.Rules.{rules}
 use Rattle.laws.proofs.Cases.{some_ne_none}
 use mathlib.Core.Bool.{not}
 use Rattle.drifthurdle.proofs.read_and_check.Goals as goal

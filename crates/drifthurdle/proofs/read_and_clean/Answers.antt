@@ -1,5 +1,4 @@
 use Rattle.drifthurdle.proofs.Refusing.{too_long}
-use borrow.Author.Rules.{rules}
 use Rattle.drifthurdle.proofs.read_and_clean.Goals as goal
 
 pub returns-then-sheet-le1024 : goal.returns-then-sheet-le1024

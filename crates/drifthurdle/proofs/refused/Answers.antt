@@ -3,7 +3,6 @@ use mathlib.Core.Path.{◌∙◌, ap}
 use native.Mathlib.Omega.{arith}
 use lib.IntN.{pos, neg_ℤ}
 use mir.Facts.{to_z-of_z}
-use borrow.Author.Rules.{rules}
 use Rattle.drifthurdle.proofs.Refusing.{minus_is, minus_fits}
 use Rattle.drifthurdle.proofs.refused.Goals as goal
 
