@@ -1,17 +1,15 @@
 -- Laws of `bit` and `word` (specs/Digits.antt): a number's binary digits as a membership test, and what the code's operations on words do to them. Assumes nothing.
-use mathlib.Core.Path.{◌≡◌, refl, sym, ap, ap₂, ◌∙◌}
-use mathlib.Core.Bool.{Bool, true, false, not, ◌&&◌, ◌||◌, and-true, and-false, or-false}
-use Prim.Native.Nat.{ℕ, zero, suc, ◌+◌, ◌-◌, ◌*◌, ◌/◌, ◌%◌, ◌^◌, ◌≤◌, ◌<◌, zero-le}
-use native.Mathlib.Nat.{pow-suc, div-one, mul-mod_left, one-mul, mod-eq_of_lt, lt_of_le_of_lt}
+use mathlib.Core.Path.{◌≡◌, refl, sym, ap, ◌∙◌}
+use mathlib.Core.Bool.{Bool, true, false, not, ◌&&◌, ◌||◌}
+use Prim.Native.Nat.{ℕ, zero, suc, ◌+◌, ◌-◌, ◌*◌, ◌/◌, ◌%◌, ◌^◌, ◌<◌}
+use native.Mathlib.Nat.{pow-suc, div-one, mul-mod_left, one-mul, mod-eq_of_lt}
 use native.Mathlib.Numerals.{one-add}
 use native.Mathlib.Omega.{arith}
 use lib.Dec.{lit<, eqb, eqb-suc-suc, eqb-suc-zero, eqb-zero-suc}
-use lib.Bits.{bit_and, bit_or, bit_xor, and_shr, or_shr, and_mod, or_mod, and_mask, and_lt, or_lt, and_le_l, or_disjoint}
-use lib.Pow.{pow_pos, pow-lt, shr-shr}
+use lib.Bits.{bit_and, bit_or, and_shr, or_shr, and_mod, or_mod, and_mask}
+use lib.Pow.{pow-lt, shr-shr}
 use lib.Count.{count_trailing_zeros, under}
-use borrow.Author.Tests.{eq-eqb, ne_eqb}
 use Rattle.laws.specs.Digits.{bit, digit_of, word}
-use Rattle.laws.proofs.Cases.{by_eq}
 
 -- what holds of 0 and of 1 holds of a digit
 two : (P : ℕ → Type 0) → P 0 → P 1 → (x : ℕ) → x < 2 → P x

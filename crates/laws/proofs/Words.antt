@@ -2,7 +2,7 @@
 -- Assumes nothing.
 use mathlib.Core.Path.{◌≡◌, refl, sym, ap, ◌∙◌}
 use mathlib.Core.Bool.{Bool, true, false, not, ◌&&◌, ◌||◌, or-false, and-true}
-use mathlib.Core.List.{List, [], ◌∷◌}
+use mathlib.Core.List.{List}
 use Prim.Native.Nat.{ℕ, zero, suc, ◌+◌, ◌-◌, ◌*◌, ◌/◌, ◌%◌, ◌^◌, ◌≤◌, ◌<◌}
 use native.Mathlib.Nat.{mod-lt, lt_of_le_of_lt}
 use native.Mathlib.Omega.{arith}
@@ -14,7 +14,7 @@ use lib.Seq.{ext_get_or, get_or-set_same, get_or-set_other}
 use lib.Bits.{bit_and, bit_or, or_lt, and_le_l}
 use lib.Count.{count_trailing_zeros}
 use borrow.Author.Tests.{ne_eqb}
-use Rattle.laws.specs.Digits.{bit, word, has_in, words_of}
+use Rattle.laws.specs.Digits.{bit, has_in, words_of}
 use Rattle.laws.proofs.Bit.{word_lt, bit_word, bit_ext, bit_zero, bit_of_and, bit_of_or, bit_with, bit_without, trailing_set, trailing_below}
 use Rattle.laws.proofs.Cases.{by_lt, by_eq, eqb_same}
 
