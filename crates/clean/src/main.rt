@@ -1,6 +1,8 @@
 // Document 01's small program.
+#![tactic(auto)]
+
 use program::run;
 
-fn main() {
-    run();
+fn main(rt: HostRuntime) {
+    run(&rt);
 }

@@ -1,1 +1,2 @@
 pub mod Printing
+mod Filling

@@ -18,7 +18,6 @@ use Rattle.answer.specs.Text.{over}
 use Rattle.answer.proofs.Laying.{over_fits}
 use Rattle.drifthurdle.specs.Call.{as_outcome}
 use Rattle.drifthurdle.specs.declared.Outcome.{Outcome}
-use Rattle.drifthurdle.specs.declared.Outcome.TheVariants as Outcome
 use Rattle.drifthurdle.proofs.Refusing.{outcome_refused, outcome_written}
 use Rattle.program.specs.Input.{FirstBytes}
 

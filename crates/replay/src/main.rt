@@ -1,8 +1,14 @@
 // Replays a fixed list of the Rust's answers: cases from standard input, `case LEVEL SWEEP ROOM LENGTH`, LF, the sheet and LF, and for each what the
 // call gives, `ans RETURNED LENGTH`, LF, the bytes and LF. The buffer is filled with a pattern first, and a byte of it that is touched where
 // none should be is told. `oracle/replay` makes the list, and the judge's answers to it, which are this program's expected output.
+#![tactic(auto)]
+
+ghost use Rattle.std.specs.Prelude.{◌≡◌, length};
+
 use drifthurdle::{Outcome, clean};
 use entity::forms::Refusal;
+use program::reading::read_full;
+use std::io::Write;
 
 // A number, and where what follows it begins.
 #[derive(Clone, Copy)]
@@ -68,23 +74,28 @@ fn scale(n: u32) -> u32 {
     p
 }
 
-fn write_digit(n: u32) {
-    let d = [48 + (n % 10) as u8];
-    io::write_all(1, &d);
+// Where a write fails, the rest is not written, and nothing says so.
+fn write<W: Write>(writer: &mut W, bytes: &[u8]) {
+    let _ = writer.write_all(bytes);
 }
 
-fn write_number(n: u32) {
+fn write_digit<W: Write>(writer: &mut W, n: u32) {
+    let d = [48 + (n % 10) as u8];
+    write(writer, &d);
+}
+
+fn write_number<W: Write>(writer: &mut W, n: u32) {
     let mut p = scale(n);
     while 0 < p {
-        write_digit(n / p);
+        write_digit(writer, n / p);
         p = p / 10;
     }
 }
 
-fn write_refused(r: Refusal) {
-    io::write_all(1, b"ans -");
-    write_number(r.sum());
-    io::write_all(1, b" 0\n\n");
+fn write_refused<W: Write>(writer: &mut W, r: Refusal) {
+    write(writer, b"ans -");
+    write_number(writer, r.sum());
+    write(writer, b" 0\n\n");
 }
 
 // The first n bytes, or all.
@@ -95,45 +106,52 @@ fn first(out: &[u8], n: usize) -> &[u8] {
     out
 }
 
-fn write_answer(out: &[u8], n: usize) {
+fn write_answer<W: Write>(writer: &mut W, out: &[u8], n: usize) {
     let length = (n % 1000000) as u32;
-    io::write_all(1, b"ans ");
-    write_number(length);
-    io::write_all(1, b" ");
-    write_number(length);
-    io::write_all(1, b"\n");
-    io::write_all(1, first(out, n));
-    io::write_all(1, b"\n");
+    write(writer, b"ans ");
+    write_number(writer, length);
+    write(writer, b" ");
+    write_number(writer, length);
+    write(writer, b"\n");
+    write(writer, first(out, n));
+    write(writer, b"\n");
 }
 
-fn tell_touched(out: &[u8], from: usize) {
+fn tell_touched<W: Write>(writer: &mut W, out: &[u8], from: usize) {
     if !untouched(out, from) {
-        io::write_all(1, b"a byte is touched\n");
+        write(writer, b"a byte is touched\n");
     }
 }
 
-fn answer(sheet: &[u8], level: u32, sweep: u32, out: &mut [u8]) {
+fn answer<W: Write>(writer: &mut W, sheet: &[u8], level: u32, sweep: u32, out: &mut [u8]) {
     fill(out);
     match clean(sheet, level, sweep, out) {
         Outcome::Refused(r) => {
-            tell_touched(out, 0);
-            write_refused(r)
+            tell_touched(writer, out, 0);
+            write_refused(writer, r)
         }
         Outcome::Written(n) => {
-            tell_touched(out, n);
-            write_answer(out, n)
+            tell_touched(writer, out, n);
+            write_answer(writer, out, n)
         }
     }
 }
 
-fn answer_in(sheet: &[u8], level: u32, sweep: u32, out: &mut [u8], room: usize) {
+fn answer_in<W: Write>(
+    writer: &mut W,
+    sheet: &[u8],
+    level: u32,
+    sweep: u32,
+    out: &mut [u8],
+    room: usize,
+) {
     if room <= out.len() {
-        answer(sheet, level, sweep, &mut out[..room])
+        answer(writer, sheet, level, sweep, &mut out[..room])
     }
 }
 
 // The case at `at`, and where the next one begins.
-fn case(s: &[u8], at: usize, out: &mut [u8]) -> usize {
+fn case<W: Write>(writer: &mut W, s: &[u8], at: usize, out: &mut [u8]) -> usize {
     let level = number(s, at);
     let sweep = number(s, level.next);
     let room = number(s, sweep.next);
@@ -141,6 +159,7 @@ fn case(s: &[u8], at: usize, out: &mut [u8]) -> usize {
     let from = length.next;
     let to = from % 0x1_0000_0000 + (length.value % 0x1_0000_0000) as usize;
     answer_in(
+        writer,
         part(s, from, to),
         (level.value % 0x1_0000_0000) as u32,
         (sweep.value % 0x1_0000_0000) as u32,
@@ -164,21 +183,28 @@ fn part(s: &[u8], from: usize, to: usize) -> &[u8] {
 // The word `case` and the blank after it.
 const WORD: usize = 5;
 
-fn replay(s: &[u8], out: &mut [u8]) {
+fn replay<W: Write>(writer: &mut W, s: &[u8], out: &mut [u8]) {
     let mut at: usize = 0;
     let mut cases: u32 = 0;
     while cases < 100000 {
         if s.len() <= at {
             return;
         }
-        at = case(s, at % 0x1_0000_0000 + WORD, out);
+        at = case(writer, s, at % 0x1_0000_0000 + WORD, out);
         cases += 1;
     }
 }
 
-fn main() {
-    let mut s = [0u8; 524288];
-    let mut out = [0u8; 131072];
-    let n = io::read_full(0, &mut s);
-    replay(&s[..n], &mut out);
+// So many zeros. The contract gives their number alone, so that a proof does not count a large buffer's.
+fn zeros<const N: usize>() -> [u8; N]
+    ensures { length result ≡ N }
+{
+    [0; N]
+}
+
+fn main(rt: HostRuntime) {
+    let mut s = zeros::<524288>();
+    let mut out = zeros::<131072>();
+    let (n, _) = read_full(&mut rt.stdin(), &mut s);
+    replay(&mut rt.stdout(), &s[..n], &mut out);
 }
