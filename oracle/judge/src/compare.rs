@@ -9,7 +9,7 @@ use crate::run;
 
 const GUARD: usize = 64;
 const SHOWN: usize = 5;
-const NOT_LINKED: &str = "compare: no library is linked; run `rt staticlib drifthurdle` in the \
+const NOT_LINKED: &str = "compare: no library is linked; run `bindings/archive` in the \
                           project's root (or set DRIFTHURDLE_LIB) and build the oracle again";
 
 /// The pattern of guards and buffer. Two rounds use it and its complement, so that a
