@@ -22,7 +22,7 @@ set_of f = made (words_of f 0 (set_limit / 64))
 abbrev pub IsSet : NumberSet → Type 0
 IsSet s = (length s.words ≡ set_limit / 64) × ((i : ℕ) → i < set_limit / 64 → get_or s.words i 0 < 2 ^ 64)
 
--- the members of `setOf f` are the numbers of which f is true
+-- the members of `set_of f` are the numbers of which f is true
 abbrev pub Members : Type 0
 Members = (f : ℕ → Bool) (k : ℕ) → k < set_limit → has (set_of f) k ≡ f k
 

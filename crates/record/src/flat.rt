@@ -30,15 +30,15 @@ pub const LENGTH: usize = NOTEDVALUE + RegUnit::LIMIT as usize;
 
 // The layout of the code is the layout of the definitions.
 pub fn layout_agrees()
-    ensures value { UNITREG ≡ unit_reg_at }
-    ensures value_2 { UNITVALUE ≡ unit_value_at }
-    ensures value_3 { HELD ≡ held_at }
-    ensures value_4 { STORED ≡ stored_at }
-    ensures value_5 { DEFINED ≡ defined_at }
-    ensures value_6 { SPILLED ≡ spilled_at }
-    ensures value_7 { NOTEDREG ≡ noted_reg_at }
-    ensures value_8 { NOTEDVALUE ≡ noted_value_at }
-    ensures value_9 { LENGTH ≡ record_length }
+    ensures unit_reg_at { UNITREG ≡ unit_reg_at }
+    ensures unit_value_at { UNITVALUE ≡ unit_value_at }
+    ensures held_at { HELD ≡ held_at }
+    ensures stored_at { STORED ≡ stored_at }
+    ensures defined_at { DEFINED ≡ defined_at }
+    ensures spilled_at { SPILLED ≡ spilled_at }
+    ensures noted_reg_at { NOTEDREG ≡ noted_reg_at }
+    ensures noted_value_at { NOTEDVALUE ≡ noted_value_at }
+    ensures record_length { LENGTH ≡ record_length }
 {}
 
 // Entry n of the section of `size` entries at `at`.

@@ -1,4 +1,4 @@
--- `digitsOf n` is made of digits, without a leading zero, and its decimal value is n, for every n.
+-- `digits_of n` is made of digits, without a leading zero, and its decimal value is n, for every n.
 use Prim.Native.Nat.{ℕ, zero, suc, ◌+◌, ◌-◌, ◌*◌, ◌/◌, ◌%◌, ◌≤◌, ◌<◌}
 use mathlib.Core.Path.{◌≡◌, refl, ◌∙◌, sym}
 use mathlib.Core.Bool.{Bool, true, false, and-eq-true_iff, or-true}

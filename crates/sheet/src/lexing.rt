@@ -103,10 +103,10 @@ fn field(s: &[u8], at: usize) -> Piece
 
 // The whole sheet: its cells from CELLS on, one after the other, and from the table's end downward where each row starts, with the end of the last.
 pub fn rows(s: &[u8], t: &mut [u32]) -> Lexed
-    requires s_in_bounds { table_length (length s.now) ≤ length t.old }
-    requires s_len_bound { length s.now ≤ byte_limit }
+    requires room { table_length (length s.now) ≤ length t.old }
+    requires short { length s.now ≤ byte_limit }
     ensures value { result ≡ as_lexed (cells_of s.now) }
-    ensures by_index { (rs : List (List ℕ)) → cells_of s.now ≡ some rs → Holds rs t.new }
+    ensures holds { (rs : List (List ℕ)) → cells_of s.now ≡ some rs → Holds rs t.new }
 {
     let last = t.len() - 1;
     t[last] = CELLS as u32;

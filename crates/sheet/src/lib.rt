@@ -24,7 +24,7 @@ const BYTES: usize = SheetByte::LIMIT as usize;
 
 pub fn read(sheet: &[u8], t: &mut [u32]) -> bool
     ensures value { result ≡ (leb (table_length (length sheet.now)) (length t.old) && is_some (rows_of sheet.now)) }
-    ensures by_index { (rs : List (List ℕ)) → rows_of sheet.now ≡ some rs → table_length (length sheet.now) ≤ length t.old → Indexed rs t.new }
+    ensures indexed { (rs : List (List ℕ)) → rows_of sheet.now ≡ some rs → table_length (length sheet.now) ≤ length t.old → Indexed rs t.new }
 {
     if t.len() < room(sheet.len()) {
         return false;

@@ -29,8 +29,8 @@ pub const FLAGS: usize = Block::LIMIT as usize;
 
 // The layout of the code is the layout of the definitions.
 pub fn layout_agrees()
-    ensures value { KNOWN ≡ known_size }
-    ensures value_2 { FLAGS ≡ block_limit }
+    ensures known_size { KNOWN ≡ known_size }
+    ensures block_limit { FLAGS ≡ block_limit }
 {}
 
 // The table has room for block b.

@@ -68,7 +68,7 @@ pub fn forward_start(t: &[u32], states: &mut [u32])
 
 // Block b is set and waits, if it is an entry.
 fn entry_at(t: &[u32], states: &mut [u32], w: BlockSet, b: Block) -> BlockSet
-    ensures by_index { (n : ℕ) → Started (is_entry (sheet_in t.now)) n states.old b.0 → Started (is_entry (sheet_in t.now)) n states.new (b.0 + 1) }
+    ensures started { (n : ℕ) → Started (is_entry (sheet_in t.now)) n states.old b.0 → Started (is_entry (sheet_in t.now)) n states.new (b.0 + 1) }
     ensures waits { Waits (is_entry (sheet_in t.now)) w.0 b.0 → Waits (is_entry (sheet_in t.now)) result.0 (b.0 + 1) }
 {
     if is_entry(t, b) {

@@ -33,16 +33,16 @@ pub const EDITS: usize = INDEX + 1392;
 
 // The layout of the code is the layout of the definitions.
 pub fn layout_agrees()
-    ensures value { INDEX ≡ kind_index }
-    ensures value_2 { INSTS ≡ inst_index }
-    ensures value_3 { SUCCS ≡ succ_index }
-    ensures value_4 { PREDS ≡ pred_index }
-    ensures value_5 { PARAMS ≡ param_index }
-    ensures value_6 { OPS ≡ op_index }
-    ensures value_7 { CLOBS ≡ clob_index }
-    ensures value_8 { EDITS ≡ edit_index }
-    ensures value_9 { CELLS ≡ cells_at }
-    ensures value_10 { WIDTH ≡ edit_width }
+    ensures kind_index { INDEX ≡ kind_index }
+    ensures inst_index { INSTS ≡ inst_index }
+    ensures succ_index { SUCCS ≡ succ_index }
+    ensures pred_index { PREDS ≡ pred_index }
+    ensures param_index { PARAMS ≡ param_index }
+    ensures op_index { OPS ≡ op_index }
+    ensures clob_index { CLOBS ≡ clob_index }
+    ensures edit_index { EDITS ≡ edit_index }
+    ensures cells_at { CELLS ≡ cells_at }
+    ensures edit_width { WIDTH ≡ edit_width }
 {}
 
 // How long a table is for a sheet of so many bytes.

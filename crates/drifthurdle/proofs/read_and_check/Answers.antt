@@ -9,12 +9,12 @@ use Rattle.drifthurdle.proofs.read_and_check.Goals as goal
 pub returns-then-not-read : goal.returns-then-not-read
 returns-then-not-read c = λ h. let a = c.args in
     let r = c.read in
-    let n = answer_false a.sheet.now a.t.now r.new.t (r.ensures.value, r.ensures.by_index) (is_false (ap not c.if-not-read.true)) h in
+    let n = answer_false a.sheet.now a.t.now r.new.t (r.ensures.value, r.ensures.indexed) (is_false (ap not c.if-not-read.true)) h in
     (rows_refuse a.sheet.now n, λ rs e f. some_ne_none e n)
 
 pub returns : goal.returns
 returns c = λ h. let a = c.args in
     let r = c.read in
-    let x = answer_true a.sheet.now a.t.now r.new.t (r.ensures.value, r.ensures.by_index) (is_true (ap not c.if-not-read.false)) in
+    let x = answer_true a.sheet.now a.t.now r.new.t (r.ensures.value, r.ensures.indexed) (is_true (ap not c.if-not-read.false)) in
     let y = c.check.ensures x.0 x.2 (rows_ok a.sheet.now x.0 x.1) in
     (y.0 ∙ ap as_checked (rows_pass a.sheet.now x.0 x.1), λ rs e. one_rows a.sheet.now x.1 e y.1)

@@ -103,16 +103,16 @@ pub shape_of-t-in-Unread : goal.shape_of-t-in-Unread
 shape_of-t-in-Unread c = c.loop-at.invariant.long ∙ simp length-set
 
 pub returns-in-Unread : goal.returns-in-Unread
-returns-in-Unread c = let u = step_unread c.args.s.now c.loop-at.at (omega arith) (sym c.field.ensures ∙ c.in-Unread.is) in let answer = answer_broken c.args.s.now c.loop-at.t (at_unread c.loop-at.invariant u) in record { value = answer.0; by_index = answer.1 }
+returns-in-Unread c = let u = step_unread c.args.s.now c.loop-at.at (omega arith) (sym c.field.ensures ∙ c.in-Unread.is) in let answer = answer_broken c.args.s.now c.loop-at.t (at_unread c.loop-at.invariant u) in record { value = answer.0; holds = answer.1 }
 
 pub shape_of-t-then-open-eq1 : goal.shape_of-t-then-open-eq1
 shape_of-t-then-open-eq1 c = c.loop-at.invariant.long ∙ simp length-set
 
 pub returns-then-open-eq1 : goal.returns-then-open-eq1
-returns-then-open-eq1 c = let answer = answer_broken c.args.s.now c.loop-at.t (at_break c.loop-at.invariant c.loop-at-test.false c.if-open-eq1.true) in record { value = answer.0; by_index = answer.1 }
+returns-then-open-eq1 c = let answer = answer_broken c.args.s.now c.loop-at.t (at_break c.loop-at.invariant c.loop-at-test.false c.if-open-eq1.true) in record { value = answer.0; holds = answer.1 }
 
 pub shape_of-t : goal.shape_of-t
 shape_of-t c = c.loop-at.invariant.long ∙ simp length-set
 
 pub returns : goal.returns
-returns c = let r = c.loop-at.invariant in let long : length c.loop-at.t ≡ length c.args.t.now = c.loop-at.invariant.long ∙ simp length-set in let enough : table_length (length c.args.s.now) ≤ length c.loop-at.t = omega (arith, long) in let answer = answer_whole r enough (omega arith) c.loop-at-test.false (not_in_row r c.if-open-eq1.false) in record { value = answer.0; by_index = answer.1 }
+returns c = let r = c.loop-at.invariant in let long : length c.loop-at.t ≡ length c.args.t.now = c.loop-at.invariant.long ∙ simp length-set in let enough : table_length (length c.args.s.now) ≤ length c.loop-at.t = omega (arith, long) in let answer = answer_whole r enough (omega arith) c.loop-at-test.false (not_in_row r c.if-open-eq1.false) in record { value = answer.0; holds = answer.1 }

@@ -12,7 +12,7 @@ pub loop-b-init : goal.loop-b-init
 loop-b-init c = (omega arith, refl, (λ m u. start_none _ m _ u), waits_none (is_entry (sheet_in c.args.t.now)) c.empty-w.result.0 c.empty-w.ensures)
 
 pub loop-b-preserved : goal.loop-b-preserved
-loop-b-preserved c = let k = c.loop-b in (omega arith, search rules, (λ m u. c.entry_at-w.ensures.by_index m (k.invariant.2 m u)), c.entry_at-w.ensures.waits k.invariant.3)
+loop-b-preserved c = let k = c.loop-b in (omega arith, search rules, (λ m u. c.entry_at-w.ensures.started m (k.invariant.2 m u)), c.entry_at-w.ensures.waits k.invariant.3)
 
 pub shape_of-states : goal.shape_of-states
 shape_of-states c = c.loop-b.invariant.1
