@@ -6,8 +6,8 @@ use Prim.Native.Nat.{ℕ, zero, suc, ◌+◌, ◌-◌, ◌*◌, ◌≤◌, ◌<�
 use native.Mathlib.Nat.{sub-zero}
 use native.Mathlib.Omega.{arith}
 use lib.Dec.{eqb, ltb}
-use lib.ListN.{length, get_or, take, drop, set, length-map, length-append, length-drop}
-use lib.Seq.{get_or-set_same, get_or-set_other, ext_get_or, length-take-le, get_or-take}
+use lib.ListN.{length, get_or, take, drop, length-map, length-append, length-drop}
+use lib.Seq.{ext_get_or, length-take-le, get_or-take}
 use borrow.Author.Tests.{lt-ltb, le-ltb, ltb-true, eq-eqb, ne_eqb}
 use Rattle.laws.specs.Lists.{all, keep, is_in}
 use Rattle.laws.proofs.Cases.{by_bool, by_lt, by_eq}
@@ -133,7 +133,6 @@ module _ {t : List ℕ} (g : Ready t) where
       rw (e, length-drop 3 (kind_row t 3 j), kind_row_is g.held 3 (omega arith) j) (omega (arith, kept_short (λ r. eqb (kind r) (slots_word + 3)) g.rows j, g.held.held.few_cells))
 
   first_small : (l : List ℕ) → all (reg_exists sh) l ≡ true → get_or l 0 0 < 256
-  unfolding all
   first_small [] e = omega arith
   first_small (r ∷ l) e = omega (arith, ltb-true r (reg_count sh) (and_left (reg_exists sh r) (all (reg_exists sh) l) e), (in_limits sh g.limits).few_regs)
 
@@ -165,42 +164,24 @@ module _ {t : List ℕ} (g : Ready t) where
 
 -- the heads of the groups before g are loaded, of as many as `groups`
 pub record Loaded (t heads₀ : List ℕ) (groups : ℕ) (heads : List ℕ) (g : ℕ) : Type 0 where
-  pub within : g ≤ groups
-  pub long : length heads ≡ length heads₀
   pub done : groups ≤ length heads₀ → (j : ℕ) → j < g → get_or heads j 0 ≡ head_in (group_row (sheet_in t) j)
-
-pub loaded_first : (t heads : List ℕ) (groups : ℕ) → Loaded t heads groups heads 0
-loaded_first t heads groups = record { within = omega arith; long = refl; done = λ r j h. absurd (omega arith) }
-
-pub loaded_next : {t heads₀ cells cells' : List ℕ} {v g groups : ℕ} → Loaded t heads₀ groups cells g → g < groups → v ≡ head_in (group_row (sheet_in t) g) → length cells' ≡ length cells → cells' ≡ set cells g v
-    → Loaded t heads₀ groups cells' (g + 1)
-loaded_next {t = t} {cells = cells} {v = v} {g = g} i h q l w =
-    record {
-      within = omega arith;
-      long = l ∙ i.long;
-      done = λ r j k.
-          rw w
-          (by_eq j g
-          (λ e. rw e (get_or-set_same cells g v 0 (omega (arith, i.long)) ∙ q))
-          (λ e. get_or-set_other cells g j v 0 e ∙ i.done r j (omega arith)));
-    }
 
 heads_at : (d : GroupRow) (l : List GroupRow) (j : ℕ) → j < length l → get_or (map head_in l) j 0 ≡ head_in (get_or l j d)
 heads_at d [] j h = absurd (omega arith)
 heads_at d (x ∷ l) zero h = refl
 heads_at d (x ∷ l) (suc j) h = heads_at d l j (omega arith)
 
-pub loaded_end : {t heads₀ cells : List ℕ} {g groups : ℕ} → groups ≡ count_in t 3 → Loaded t heads₀ groups cells g → groups ≤ g → count_in t 3 ≤ length heads₀ → take (count_in t 3) cells ≡ heads_of (sheet_in t)
+pub loaded_end : {t heads₀ cells : List ℕ} {g groups : ℕ} → groups ≡ count_in t 3 → Loaded t heads₀ groups cells g → length cells ≡ length heads₀ → g ≤ groups → groups ≤ g → count_in t 3 ≤ length heads₀ → take (count_in t 3) cells ≡ heads_of (sheet_in t)
 unfolding heads_of
-loaded_end {t} {cells = cells} {g = g} q i h r =
+loaded_end {t} {cells = cells} {g = g} q i l u h r =
     let sh = sheet_in t in
     let n = count_in t 3 in
     let many : length sh.groups ≡ n = long_of (groups_are t) in
-    let short : length (take n cells) ≡ n = length-take-le n cells (omega (arith, i.long)) in
+    let short : length (take n cells) ≡ n = length-take-le n cells (omega arith) in
     ext_get_or 0 (take n cells) (map head_in sh.groups) (short ∙ sym (length-map sh.groups head_in ∙ many))
-    (λ j u.
+    (λ j k.
     let v : j < n = omega (arith, short) in
-    get_or-take n cells j 0 v ∙ i.done (omega arith) j (omega (arith, i.within)) ∙ sym (heads_at (record { class = 0; regs = [] }) sh.groups j (omega (arith, many))))
+    get_or-take n cells j 0 v ∙ i.done (omega arith) j (omega arith) ∙ sym (heads_at (record { class = 0; regs = [] }) sh.groups j (omega (arith, many))))
 
 pub heads_known : {t : List ℕ} (cells heads : List ℕ) (groups : ℕ) → (count_in t 3 ≤ 32 → take (count_in t 3) cells ≡ heads_of (sheet_in t)) → groups ≡ count_in t 3 → heads ≡ take (groups - 0) (drop 0 cells) → Ready t → heads ≡ heads_of (sheet_in t)
 heads_known {t} cells heads groups e q p g =

@@ -1,7 +1,7 @@
+pub mod Ranges
 pub mod Blockwise
 pub mod Heads
 pub mod Lowest
-pub mod Walks
 pub mod Reaching
 pub mod Operandwise
 pub mod Pairing

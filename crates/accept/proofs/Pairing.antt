@@ -4,13 +4,14 @@ use mathlib.Core.Bool.{Bool, true, false, not, ◌&&◌, ◌||◌, and-false, or
 use mathlib.Core.List.{List, [], ◌∷◌, map}
 use mathlib.Core.Option.{Option, none, some, Option-elim}
 use Prim.Native.Nat.{ℕ, zero, suc, ◌+◌, ◌-◌, ◌≤◌, ◌<◌}
-use native.Mathlib.Nat.{sub-zero, le_trans}
+use native.Mathlib.Nat.{le_trans}
 use native.Mathlib.Numerals.{add-one}
 use native.Mathlib.Omega.{arith}
 use lib.Dec.{eqb, leb, ltb}
 use lib.ListN.{length, get_or, take, drop, drop_of_length-le, get_or-eq_default}
 use lib.Seq.{drop-cons, take-nil}
-use borrow.Author.Tests.{lt-ltb, le-ltb, le-leb, lt-leb, leb-true, eq-eqb, ne_eqb, ltb-true, not-true, not-false}
+use borrow.Author.Tests.{lt-ltb, le-ltb, le-leb, lt-leb, leb-true, eq-eqb, ne_eqb, ltb-true}
+use Rattle.std.specs.List.{range_with_len}
 use Rattle.laws.specs.Lists.{all, any, keep, is_in, from}
 use Rattle.laws.proofs.Cases.{by_bool, by_lt, by_eq, same_test}
 use Rattle.laws.proofs.Lists.{is_from, keep_none, part_map, from_long}
@@ -22,8 +23,6 @@ use Rattle.entity.specs.declared.forms.Edit.{Edit}
 use Rattle.entity.specs.declared.forms.Edit.TheVariants.{Move, Remat, Espill, Ereload, Misplaced, Nothing}
 use Rattle.entity.specs.declared.forms.Place.{Place}
 use Rattle.entity.specs.declared.forms.Place.TheVariants.{Reg, Slot}
-use Rattle.entity.specs.declared.numbers.Value.{Value}
-use Rattle.entity.specs.declared.numbers.PhysReg.{PhysReg}
 use Rattle.entity.specs.declared.numbers.SpillSlot.{SpillSlot}
 use Rattle.rules.specs.Cells.{word, find, words}
 use Rattle.rules.specs.Words.{move_word, remat_word, espill_word, ereload_word}
@@ -41,15 +40,16 @@ use Rattle.table.specs.declared.index.Range.{Range}
 use Rattle.table.proofs.Loops.{and_left, and_right, and_both, never, all_at, all_each, any_hit, all_numbers, any_numbers, keep_map, keep_same}
 use Rattle.table.proofs.Sheets.{long_of, edits_are, values_are, regs_are, edit_row_of}
 use Rattle.table.proofs.Beginnings.{from_at}
-use Rattle.table.specs.declared.view.FoundSlot.{FoundSlot}
+use Rattle.std.specs.Prelude.{Some, None}
+use Rattle.std.specs.Prelude as Code
 use Rattle.names.proofs.Sets.{below, all_more, any_set_of}
 use Rattle.table.proofs.Stored.{sheet_edit_is}
 use Rattle.table.proofs.Lookups.{insts_are, edits_fall_in}
 use Rattle.table.proofs.Filling.{total_part}
 use Rattle.table.proofs.Ranges.{before_low}
-use Rattle.accept.specs.Pairs.{paired_by, after_edit, is_emergency, edits_of, is_home_of, home_set, shared_in, shared_set, some_emergency, pair_apart, edit_holds, each_holds}
-use Rattle.accept.specs.declared.edits.Open.{Open}
-use Rattle.accept.specs.declared.edits.Open.TheVariants.{None, Spill, Broken}
+use Rattle.accept.specs.Pairs.{Held, paired_by, after_edit, is_emergency, edits_of, is_home_of, home_set, shared_in, shared_set, some_emergency, pair_apart, edit_holds, each_holds}
+use Rattle.std.proofs.Common.{None, Some, Result, Ok, Err, is_some}
+use Rattle.accept.proofs.Ranges.{range_from}
 use Rattle.accept.proofs.Blockwise.{all_and}
 use Rattle.accept.proofs.Reaching.{any_more, any_at, from_hit, from_some, in_hit, or_cases, or_left, or_right}
 
@@ -60,7 +60,6 @@ sorted_from x [] = true
 sorted_from x (e ∷ es) = leb x e.at && sorted_from e.at es
 
 more_low : (x y : ℕ) (es : List EditRow) → x ≤ y → all (λ f. leb y f.at) es ≡ true → all (λ f. leb x f.at) es ≡ true
-unfolding all
 more_low x y [] h e = refl
 more_low x y (f ∷ es) h e =
     and_both (leb x f.at) (all (λ f. leb x f.at) es)
@@ -68,7 +67,7 @@ more_low x y (f ∷ es) h e =
     (more_low x y es h (and_right (leb y f.at) (all (λ f. leb y f.at) es) e))
 
 sorted_is : (x : ℕ) (es : List EditRow) → sorted_from x es ≡ (all (λ f. leb x f.at) es && in_order es)
-unfolding sorted_from all in_order
+unfolding sorted_from in_order
 sorted_is x [] = refl
 sorted_is x (e ∷ es) =
     rw (sorted_is e.at es)
@@ -81,7 +80,6 @@ sorted_is x (e ∷ es) =
     (λ p. rw p))
 
 zero_low : (es : List EditRow) → all (λ f. leb 0 f.at) es ≡ true
-unfolding all
 zero_low [] = refl
 zero_low (e ∷ es) = rw (le-leb 0 e.at (omega arith)) (zero_low es)
 
@@ -141,10 +139,10 @@ emergency_row t n w e =
     let r = kind_row t 12 n in
     ap (λ (w : ℕ). eqb w espill_word || eqb w ereload_word) e ∙ emergency_of (get_or r 2 0) (get_or r 3 0) (get_or r 4 0) (get_or r 5 0) ∙ ap is_emergency (sym (sheet_edit_is t n (record { at = 0; edit = Nothing }) refl))
 
-pub emergencies_start : (t : List ℕ) (m : ℕ) → m ≡ count_in t 12 → any (λ n. is_emergency (edit_row (sheet_in t) n).edit) (from 0 (m - 0)) ≡ some_emergency (sheet_in t)
+pub emergencies_any : (t : List ℕ) {m : ℕ} → m ≡ count_in t 12 → any (λ n. is_emergency (edit_row (sheet_in t) n).edit) (range_with_len 0 m) ≡ some_emergency (sheet_in t)
 unfolding some_emergency
-emergencies_start t m e =
-    ap (λ (m : ℕ). any (λ n. is_emergency (edit_row (sheet_in t) n).edit) (from 0 m)) (sub-zero m ∙ e ∙ sym (long_of (edits_are t)))
+emergencies_any t {m} e =
+    ap (any (λ n. is_emergency (edit_row (sheet_in t) n).edit)) (range_from 0 m ∙ ap (from 0) (e ∙ sym (long_of (edits_are t))))
     ∙ sym (any_numbers (λ (e : EditRow). is_emergency e.edit) (record { at = 0; edit = Nothing }) (sheet_in t).edits)
 
 -- of any other edit nothing is asked
@@ -167,13 +165,12 @@ other_paired (Misplaced to p) es q = never (sym q)
 other_paired Nothing es q = refl
 
 others_hold : (sh : Sheet) (es : List EditRow) → any (λ e. is_emergency e.edit) es ≡ false → all (λ e. edit_holds sh e.edit) es ≡ true
-unfolding any all
 others_hold sh [] q = refl
 others_hold sh (e ∷ es) q =
     by_bool (is_emergency e.edit) (λ p. let z : true ≡ false = rw p at q in never (sym z)) (λ p. rw (other_holds sh e.edit p) (others_hold sh es (rw p at q)))
 
 others_paired : (f : EditRow → Bool) (es : List EditRow) → any (λ e. is_emergency e.edit) es ≡ false → paired none (map (λ e. e.edit) (keep f es)) ≡ true
-unfolding any keep paired
+unfolding keep paired
 others_paired f [] q = refl
 others_paired f (e ∷ es) q =
     by_bool (is_emergency e.edit) (λ p. let z : true ≡ false = rw p at q in never (sym z))
@@ -183,61 +180,74 @@ others_paired f (e ∷ es) q =
 
 -- ---- pairs
 
-pub pair_step : (e : Edit) (o : Open) (es : List Edit) → paired_by (after_edit e o) es ≡ paired_by o (e ∷ es)
+-- the rest of a block's edits goes on well after what an edit left
+abbrev pub left_by : Result Held (Unit {0}) → List Edit → Bool
+left_by (Ok h) es = paired_by h es
+left_by (Err u) es = false
+
+pair_step : (e : Edit) (h : Held) (es : List Edit) → left_by (after_edit e h) es ≡ paired_by h (e ∷ es)
 unfolding paired_by after_edit paired
 pair_step (Move to p v) None es = refl
-pair_step (Move to p v) (Spill s r) es = refl
-pair_step (Move to p v) Broken es = refl
+pair_step (Move to p v) (Some h) es = refl
 pair_step (Remat to v) None es = refl
-pair_step (Remat to v) (Spill s r) es = refl
-pair_step (Remat to v) Broken es = refl
+pair_step (Remat to v) (Some h) es = refl
 pair_step (Misplaced to p) None es = refl
-pair_step (Misplaced to p) (Spill s r) es = refl
-pair_step (Misplaced to p) Broken es = refl
+pair_step (Misplaced to p) (Some h) es = refl
 pair_step Nothing None es = refl
-pair_step Nothing (Spill s r) es = refl
-pair_step Nothing Broken es = refl
+pair_step Nothing (Some h) es = refl
 pair_step (Espill s r) None es = refl
-pair_step (Espill s r) (Spill a b) es = refl
-pair_step (Espill s r) Broken es = refl
+pair_step (Espill s r) (Some h) es = refl
 pair_step (Ereload r s) None es = refl
-pair_step (Ereload r s) (Spill a b) es =
-    by_bool (eqb a.0 s.0 && eqb b.0 r.0) (λ e. rw e) (λ e. rw e)
-pair_step (Ereload r s) Broken es = refl
+pair_step (Ereload r s) (Some h) es = by_bool (eqb h.0.0 s.0 && eqb h.1.0 r.0) (λ e. rw e) (λ e. rw e)
 
-same_after : (o : Open) → after_edit Nothing o ≡ o
+same_after : (h : Held) → after_edit Nothing h ≡ Ok h
 unfolding after_edit
-same_after o = refl
+same_after h = refl
 
-pub pairs_on : (t : List ℕ) (o o' : Open) (e : Edit) (u n : ℕ) {d : Bool} → n < u → e ≡ edit_at_row t n → o' ≡ after_edit e o → paired_by o (edits_of (take (u - n) (drop n (sheet_in t).edits))) ≡ d
-    → paired_by o' (edits_of (take (u - (n + 1)) (drop (n + 1) (sheet_in t).edits))) ≡ d
-unfolding edits_of
-pairs_on t o o' e u n {d} h q z inv =
-    let es = (sheet_in t).edits in
-    let r = edit_row (sheet_in t) n in
-    let m : u - n ≡ suc (u - (n + 1)) = omega arith in
-    let w : e ≡ r.edit = q ∙ sym (sheet_edit_is t n (record { at = 0; edit = Nothing }) refl) in
-    by_lt n (length es)
-    (λ l.
-    rw (z, pair_step e o (map (λ e. e.edit) (take (u - (n + 1)) (drop (n + 1) es))))
-    (let a : drop n es ≡ r ∷ drop (n + 1) es = drop-cons es n _ l ∙ ap (λ (k : ℕ). r ∷ drop k es) (sym (add-one n)) in
-    ap (λ (x : Edit). paired_by o (x ∷ map (λ e. e.edit) (take (u - (n + 1)) (drop (n + 1) es)))) w
-    ∙ sym (ap (λ (x : List EditRow). paired_by o (map (λ e. e.edit) (take (u - n) x))) a ∙ ap (λ (k : ℕ). paired_by o (map (λ e. e.edit) (take k (r ∷ drop (n + 1) es)))) m)
-    ∙ inv))
-    (λ l.
-    let a : drop n es ≡ [] = drop_of_length-le es l in
-    let b : drop (n + 1) es ≡ [] = drop_of_length-le es {i = n + 1} (omega arith) in
-    let c : e ≡ Nothing = w ∙ ap (λ (x : EditRow). x.edit) (get_or-eq_default es (record { at = 0; edit = Nothing }) l) in
-    let s : o' ≡ o = z ∙ ap (λ (x : Edit). after_edit x o) c ∙ same_after o in
-    let done : paired_by o [] ≡ d =
-    sym (ap (λ (x : List EditRow). paired_by o (map (λ e. e.edit) (take (u - n) x))) a ∙ ap (λ (x : List EditRow). paired_by o (map (λ e. e.edit) x)) (take-nil (u - n))) ∙ inv
-    in
-    ap (λ (x : Open). paired_by x (map (λ e. e.edit) (take (u - (n + 1)) (drop (n + 1) es)))) s
-    ∙ ap (λ (x : List EditRow). paired_by o (map (λ e. e.edit) (take (u - (n + 1)) x))) b ∙ ap (λ (x : List EditRow). paired_by o (map (λ e. e.edit) x)) (take-nil (u - (n + 1))) ∙ done)
+module _ (t : List ℕ) (h : Held) (e : Edit) (u n : ℕ) {x : Result Held (Unit {0})} (l : n < u) (q : e ≡ edit_at_row t n) (z : x ≡ after_edit e h) {d : Bool} (inv : paired_by h (edits_of (take (u - n) (drop n (sheet_in t).edits))) ≡ d) where
+  pairs_on : left_by x (edits_of (take (u - (n + 1)) (drop (n + 1) (sheet_in t).edits))) ≡ d
+  unfolding edits_of
+  pairs_on =
+      let es = (sheet_in t).edits in
+      let r = edit_row (sheet_in t) n in
+      let rest = map (λ (e : EditRow). e.edit) (take (u - (n + 1)) (drop (n + 1) es)) in
+      let m : u - n ≡ suc (u - (n + 1)) = omega arith in
+      let w : e ≡ r.edit = q ∙ sym (sheet_edit_is t n (record { at = 0; edit = Nothing }) refl) in
+      by_lt n (length es)
+      (λ l.
+      let a : drop n es ≡ r ∷ drop (n + 1) es = drop-cons es n _ l ∙ ap (λ (k : ℕ). r ∷ drop k es) (sym (add-one n)) in
+      ap (λ (x : Result Held (Unit {0})). left_by x rest) z
+      ∙ pair_step e h rest
+      ∙ ap (λ (x : Edit). paired_by h (x ∷ rest)) w
+      ∙ sym (ap (λ (x : List EditRow). paired_by h (map (λ e. e.edit) (take (u - n) x))) a ∙ ap (λ (k : ℕ). paired_by h (map (λ e. e.edit) (take k (r ∷ drop (n + 1) es)))) m)
+      ∙ inv)
+      (λ l.
+      let a : drop n es ≡ [] = drop_of_length-le es l in
+      let b : drop (n + 1) es ≡ [] = drop_of_length-le es {i = n + 1} (omega arith) in
+      let c : e ≡ Nothing = w ∙ ap (λ (x : EditRow). x.edit) (get_or-eq_default es (record { at = 0; edit = Nothing }) l) in
+      let s : x ≡ Ok h = z ∙ ap (λ (x : Edit). after_edit x h) c ∙ same_after h in
+      let done : paired_by h [] ≡ d =
+      sym (ap (λ (x : List EditRow). paired_by h (map (λ e. e.edit) (take (u - n) x))) a ∙ ap (λ (x : List EditRow). paired_by h (map (λ e. e.edit) x)) (take-nil (u - n))) ∙ inv
+      in
+      ap (λ (x : Result Held (Unit {0})). left_by x rest) s
+      ∙ ap (λ (x : List EditRow). paired_by h (map (λ e. e.edit) (take (u - (n + 1)) x))) b ∙ ap (λ (x : List EditRow). paired_by h (map (λ e. e.edit) x)) (take-nil (u - (n + 1))) ∙ done)
 
-pub pairs_end : (t : List ℕ) (o : Open) (u n : ℕ) {d x : Bool} → u ≤ n → x ≡ paired_by o [] → paired_by o (edits_of (take (u - n) (drop n (sheet_in t).edits))) ≡ d → x ≡ d
-unfolding edits_of
-pairs_end t o u n h e inv = let z : u - n ≡ 0 = omega arith in e ∙ rw z at inv
+  pub pairs_next : {k : Held} → x ≡ Ok k → paired_by k (edits_of (take (u - (n + 1)) (drop (n + 1) (sheet_in t).edits))) ≡ d
+  pairs_next y = sym (ap (λ (x : Result Held (Unit {0})). left_by x (edits_of (take (u - (n + 1)) (drop (n + 1) (sheet_in t).edits)))) y) ∙ pairs_on
+
+  pub pairs_stop : {k : Unit {0}} → x ≡ Err k → false ≡ d
+  pairs_stop y = sym (ap (λ (x : Result Held (Unit {0})). left_by x (edits_of (take (u - (n + 1)) (drop (n + 1) (sheet_in t).edits)))) y) ∙ pairs_on
+
+-- at the end all is well if none is open
+pub pairs_end : (t : List ℕ) (h : Held) (u n : ℕ) {x d : Bool} → u ≤ n → is_some h ≡ not x → paired_by h (edits_of (take (u - n) (drop n (sheet_in t).edits))) ≡ d → x ≡ d
+unfolding edits_of paired_by paired
+pairs_end t h u n {x} l e inv = let z : u - n ≡ 0 = omega arith in closed h x e ∙ rw z at inv
+  where
+    closed : (h : Held) (x : Bool) → is_some h ≡ not x → x ≡ paired_by h []
+    closed None true e = refl
+    closed None false e = never e
+    closed (Some k) true e = never (sym e)
+    closed (Some k) false e = refl
 
 pub pairs_start : (es : List Edit) → paired_by None es ≡ paired none es
 unfolding paired_by
@@ -277,7 +287,7 @@ module _ {t : List ℕ} (g : Ready t) (o : in_order (sheet_in t).edits ≡ true)
   insts = sym (rw e (insts_are g b))
 
   pub block_none : i.to ≤ i.from → edits_of (take (0 - 0) (drop 0 sh.edits)) ≡ edits_in sh b
-  unfolding edits_in edits_of from is_in any
+  unfolding edits_in edits_of from is_in
   block_none h =
       let z : i.to - i.from ≡ 0 = omega arith in
       sym (ap (map (λ (e : EditRow). e.edit)) (keep_none (λ e. is_in e.at (insts_of sh b)) (record { at = 0; edit = Nothing }) sh.edits (λ j u. rw (insts, z))))
@@ -315,29 +325,29 @@ module _ {t : List ℕ} (g : Ready t) (o : in_order (sheet_in t).edits ≡ true)
 abbrev pub home_in : Sheet → ℕ → ℕ → Bool
 home_in sh k v = Option-elim (home_of sh v) false (eqb k)
 
-slot_lost : (x : Option ℕ) → FoundSlot.Nothing ≡ slot_found x → x ≡ none
+slot_lost : (x : Option ℕ) → None ≡ slot_found x → x ≡ none
 unfolding slot_found
 slot_lost none q = refl
 slot_lost (some y) q = absurd (let z : ◌≡◌ {A = ℕ} 0 1 = cc in omega arith)
 
-slot_found_lem : (x : Option ℕ) (h : SpillSlot) → FoundSlot.At h ≡ slot_found x → x ≡ some h.0
+slot_found_lem : (x : Option ℕ) (h : SpillSlot) → Some h ≡ slot_found x → x ≡ some h.0
 unfolding slot_found
 slot_found_lem none h q = absurd (let z : ◌≡◌ {A = ℕ} 0 1 = cc in omega arith)
 slot_found_lem (some y) h q = let z : h ≡ record { 0 = y } = cc in ap some (sym (ap (λ (h : SpillSlot). h.0) z))
 
-module _ (o : Option ℕ) (s : NumberSet) {f : FoundSlot} (e : f ≡ slot_found o) where
-  pub home_none : f ≡ FoundSlot.Nothing → (p : ℕ → Bool) → s ≡ set_of p → s ≡ set_of (λ k. p k || Option-elim o false (eqb k))
+module _ (o : Option ℕ) (s : NumberSet) {f : Code.Option SpillSlot} (e : f ≡ slot_found o) where
+  pub home_none : f ≡ None → (p : ℕ → Bool) → s ≡ set_of p → s ≡ set_of (λ k. p k || Option-elim o false (eqb k))
   unfolding Option-elim
   home_none q p i = i ∙ set_of_same p (λ k. p k || Option-elim o false (eqb k)) (λ k h. rw (slot_lost o (sym q ∙ e)) (sym (or-false (p k))))
 
-  pub home_some : (h : SpillSlot) (x : NumberSet) → f ≡ FoundSlot.At h → x ≡ set_of (λ k. has s k || eqb k h.0) → (p : ℕ → Bool) → s ≡ set_of p → x ≡ set_of (λ k. p k || Option-elim o false (eqb k))
+  pub home_some : (h : SpillSlot) (x : NumberSet) → f ≡ Some h → x ≡ set_of (λ k. has s k || eqb k h.0) → (p : ℕ → Bool) → s ≡ set_of p → x ≡ set_of (λ k. p k || Option-elim o false (eqb k))
   unfolding Option-elim
   home_some h x q z p i =
       z ∙ set_of_same (λ k. has s k || eqb k h.0) (λ k. p k || Option-elim o false (eqb k)) (λ k l. rw (i, has_set_of p k l, slot_found_lem o h (sym q ∙ e)))
 
 module _ (t : List ℕ) where
   pub homes_none : (s : NumberSet) → s ≡ set_of (λ k. false) → s ≡ set_of (λ k. any (home_in (sheet_in t) k) (from 0 0))
-  unfolding any from
+  unfolding from
   homes_none s e = e
 
   pub homes_next : (v : ℕ) (x : NumberSet) → x ≡ set_of (λ k. any (home_in (sheet_in t) k) (from 0 v) || home_in (sheet_in t) k v) → x ≡ set_of (λ k. any (home_in (sheet_in t) k) (from 0 (v + 1)))
@@ -358,7 +368,7 @@ unit_in sh k q = is_in k (units_of sh q)
 
 module _ (t : List ℕ) where
   pub shared_none : (s : NumberSet) → s ≡ set_of (λ k. false) → (s ≡ set_of (λ k. any (unit_in (sheet_in t) k) (from 0 0))) × (s ≡ set_of (shared_in (sheet_in t) 0))
-  unfolding any from shared_in
+  unfolding from shared_in
   shared_none s e = (e, e)
 
   -- the units of register r
@@ -466,9 +476,9 @@ module _ (t : List ℕ) (homes shared : NumberSet) (s r : ℕ) where
       e ∙ ap (λ (h : NumberSet). has h s) p
       ∙ has_set_of (is_home_of (sheet_in t)) s (omega (arith, (in_limits (sheet_in t) g.limits).few_slots, ltb-true s (sheet_in t).slots a))
 
-  pub apart_home : {x : Bool} → x ≡ has homes s → x ≡ true → Known (false ≡ pair_apart (sheet_in t) s r)
+  pub apart_home : {x : Bool} → x ≡ has homes s → x ≡ true → Known (not x ≡ pair_apart (sheet_in t) s r)
   unfolding pair_apart no_home is_home_of
-  apart_home e z g p q a b = let h = sym (has_home e g p q a b) ∙ z in rw h
+  apart_home e z g p q a b = let h = sym (has_home e g p q a b) ∙ z in rw (z, h)
 
   pub apart_units : {x y : Bool} (l : List ℕ) → x ≡ has homes s → x ≡ false → l ≡ units_of (sheet_in t) r → y ≡ any (has shared) l → Known (not y ≡ pair_apart (sheet_in t) s r)
   unfolding pair_apart no_home is_home_of shared_set
@@ -481,65 +491,34 @@ module _ (t : List ℕ) (homes shared : NumberSet) (s r : ℕ) where
       ∙ any_set_of (shared_in (sheet_in t) (reg_count (sheet_in t))) (units_of (sheet_in t) r) (units_below (sheet_in t) r g.limits k))
       ∙ apart_is (sheet_in t) r k)
 
-module _ (t : List ℕ) (homes shared : NumberSet) (e : Edit) where
-  abbrev pub Named : Type 0 → Type 0
-  Named X = Ready t → homes ≡ home_set (sheet_in t) → shared ≡ shared_set (sheet_in t) → edit_names (sheet_in t) e ≡ true → X
-
-  pub holds_spill : (s : SpillSlot) (r : PhysReg) (x : Bool) → e ≡ Espill s r → Known t homes shared s.0 r.0 (x ≡ pair_apart (sheet_in t) s.0 r.0) → Named (x ≡ pair_holds (sheet_in t) e)
-  unfolding pair_holds pair_apart edit_names
-  holds_spill s r x q k g p z n =
-      let m : (slot_exists (sheet_in t) s.0 && reg_exists (sheet_in t) r.0) ≡ true = rw q at n in
-      rw q (k g p z (and_left (slot_exists (sheet_in t) s.0) (reg_exists (sheet_in t) r.0) m) (and_right (slot_exists (sheet_in t) s.0) (reg_exists (sheet_in t) r.0) m))
-
-  pub holds_reload : (r : PhysReg) (s : SpillSlot) (x : Bool) → e ≡ Ereload r s → Known t homes shared s.0 r.0 (x ≡ pair_apart (sheet_in t) s.0 r.0) → Named (x ≡ pair_holds (sheet_in t) e)
-  unfolding pair_holds pair_apart edit_names
-  holds_reload r s x q k g p z n =
-      let m : (reg_exists (sheet_in t) r.0 && slot_exists (sheet_in t) s.0) ≡ true = rw q at n in
-      rw q (k g p z (and_right (reg_exists (sheet_in t) r.0) (slot_exists (sheet_in t) s.0) m) (and_left (reg_exists (sheet_in t) r.0) (slot_exists (sheet_in t) s.0) m))
-
-  pub holds_move : (to p : Place) (v : Value) → e ≡ Move to p v → Named (true ≡ pair_holds (sheet_in t) e)
-  unfolding pair_holds
-  holds_move to p v q g a b n = rw q
-
-  pub holds_remat : (to : Place) (v : Value) → e ≡ Remat to v → Named (true ≡ pair_holds (sheet_in t) e)
-  unfolding pair_holds
-  holds_remat to v q g a b n = rw q
-
-  pub holds_misplaced : (to p : Place) → e ≡ Misplaced to p → Named (true ≡ pair_holds (sheet_in t) e)
-  unfolding pair_holds
-  holds_misplaced to p q g a b n = rw q
-
-  pub holds_nothing : e ≡ Nothing → Named (true ≡ pair_holds (sheet_in t) e)
-  unfolding pair_holds
-  holds_nothing q g a b n = rw q
-
-  pub edit_stop : (x : Bool) → x ≡ placed e → not x ≡ true → Named (false ≡ edit_holds (sheet_in t) e)
-  unfolding edit_holds
-  edit_stop x q m g p z n = rw (sym q ∙ not-true x m)
-
-  pub edit_go : (x y : Bool) → x ≡ placed e → not x ≡ false → Named (y ≡ pair_holds (sheet_in t) e) → Named (y ≡ edit_holds (sheet_in t) e)
-  unfolding edit_holds
-  edit_go x y q m k g p z n = rw (sym q ∙ not-false x m) (k g p z n)
-
 -- ---- all of them
 
 module _ (t : List ℕ) where
-  pub each_start : (m : ℕ) → m ≡ count_in t 12 → all (λ n. edit_holds (sheet_in t) (edit_row (sheet_in t) n).edit) (from 0 (m - 0)) ≡ each_holds (sheet_in t)
+  pub each_all : {m : ℕ} → m ≡ count_in t 12 → all (λ n. edit_holds (sheet_in t) (edit_row (sheet_in t) n).edit) (range_with_len 0 m) ≡ each_holds (sheet_in t)
   unfolding each_holds
-  each_start m e =
-      ap (λ (m : ℕ). all (λ n. edit_holds (sheet_in t) (edit_row (sheet_in t) n).edit) (from 0 m)) (sub-zero m ∙ e ∙ sym (long_of (edits_are t)))
+  each_all {m} e =
+      ap (all (λ n. edit_holds (sheet_in t) (edit_row (sheet_in t) n).edit)) (range_from 0 m ∙ ap (from 0) (e ∙ sym (long_of (edits_are t))))
       ∙ sym (all_numbers (λ (e : EditRow). edit_holds (sheet_in t) e.edit) (record { at = 0; edit = Nothing }) (sheet_in t).edits)
 
-  pub row_held : (homes shared : NumberSet) (m n : ℕ) (e : Edit) (x : Bool) → homes ≡ home_set (sheet_in t) → shared ≡ shared_set (sheet_in t) → m ≡ count_in t 12 → n < m → e ≡ edit_at_row t n
-      → Named t homes shared e (x ≡ edit_holds (sheet_in t) e) → Ready t → x ≡ edit_holds (sheet_in t) (edit_row (sheet_in t) n).edit
-  row_held homes shared m n e x p q c h z k g =
+  -- a row names what exists, and so does what stands past the last
+  named_at : Ready t → (n : ℕ) → edit_names (sheet_in t) (edit_row (sheet_in t) n).edit ≡ true
+  unfolding edit_names
+  named_at g n =
       let sh = sheet_in t in
-      let w : e ≡ (edit_row sh n).edit = z ∙ sym (sheet_edit_is t n (record { at = 0; edit = Nothing }) refl) in
-      let l : n < length sh.edits = omega (arith, long_of (edits_are t)) in
-      let a =
-      all_at (λ (e : EditRow). ltb e.at (inst_count sh) && edit_names sh e.edit) (record { at = 0; edit = Nothing }) sh.edits (each_named sh (all_named_lem sh g.names)).edits n l
-      in
-      k g p q (rw w (and_right (ltb (edit_row sh n).at (inst_count sh)) (edit_names sh (edit_row sh n).edit) a)) ∙ ap (edit_holds sh) w
+      by_lt n (length sh.edits)
+      (λ l.
+      and_right (ltb (edit_row sh n).at (inst_count sh)) (edit_names sh (edit_row sh n).edit)
+      (all_at (λ (e : EditRow). ltb e.at (inst_count sh) && edit_names sh e.edit) (record { at = 0; edit = Nothing }) sh.edits (each_named sh (all_named_lem sh g.names)).edits n l))
+      (λ l. ap (λ (x : EditRow). edit_names sh x.edit) (get_or-eq_default sh.edits (record { at = 0; edit = Nothing }) l))
+
+  row_edit : (n : ℕ) {e : Edit} → e ≡ edit_at_row t n → e ≡ (edit_row (sheet_in t) n).edit
+  row_edit n z = z ∙ sym (sheet_edit_is t n (record { at = 0; edit = Nothing }) refl)
+
+  pub row_named : Ready t → (n : ℕ) {e : Edit} → e ≡ edit_at_row t n → edit_names (sheet_in t) e ≡ true
+  row_named g n z = rw (row_edit n z) (named_at g n)
+
+  pub row_held : (n : ℕ) {e : Edit} {x : Bool} → e ≡ edit_at_row t n → x ≡ edit_holds (sheet_in t) e → x ≡ edit_holds (sheet_in t) (edit_row (sheet_in t) n).edit
+  row_held n z k = k ∙ ap (edit_holds (sheet_in t)) (row_edit n z)
 
 -- REFUSAL 6
 pub edits_hold_lem : (sh : Sheet) → (in_order sh.edits && each_holds sh && all (λ b. paired none (edits_in sh b)) (from 0 (block_count sh))) ≡ edits_hold sh
@@ -557,19 +536,20 @@ edits_hold_lem sh =
     regroup false p h a = refl
 
 module _ {H : Type 0} (sh : Sheet) where
-  pub none_asked : (x y : Bool) → x ≡ in_order sh.edits → not x ≡ false → y ≡ some_emergency sh → not y ≡ true → H → true ≡ edits_hold sh
+  pub none_asked : (x y : Bool) → x ≡ in_order sh.edits → x ≡ true → y ≡ some_emergency sh → y ≡ false → H → not y ≡ edits_hold sh
   unfolding some_emergency each_holds edits_in
   none_asked x y e n f m g =
-      let q = sym f ∙ not-true y m in
-      rw (sym e ∙ not-false x n, others_hold sh sh.edits q, all_each (λ b. paired none (edits_in sh b)) 0 (from 0 (block_count sh)) (λ j u. others_paired (λ e. is_in e.at (insts_of sh (get_or (from 0 (block_count sh)) j 0))) sh.edits q))
-      at (edits_hold_lem sh)
+      let q = sym f ∙ m in
+      rw m
+      (rw (sym e ∙ n, others_hold sh sh.edits q, all_each (λ b. paired none (edits_in sh b)) 0 (from 0 (block_count sh)) (λ j u. others_paired (λ e. is_in e.at (insts_of sh (get_or (from 0 (block_count sh)) j 0))) sh.edits q))
+      at (edits_hold_lem sh))
 
-  pub unordered : (x : Bool) → x ≡ in_order sh.edits → not x ≡ true → H → false ≡ edits_hold sh
-  unordered x e n g = rw (sym e ∙ not-true x n) at (edits_hold_lem sh)
+  pub unordered : (x : Bool) → x ≡ in_order sh.edits → x ≡ false → H → x ≡ edits_hold sh
+  unordered x e n g = n ∙ rw (sym e ∙ n) at (edits_hold_lem sh)
 
-  pub one_broken : (y : Bool) → (H → y ≡ each_holds sh) → not y ≡ true → H → false ≡ edits_hold sh
-  one_broken y e n g = simp (sym (e g) ∙ not-true y n, and-false) at (edits_hold_lem sh)
+  pub one_broken : (y : Bool) → (H → y ≡ each_holds sh) → y ≡ false → H → y ≡ edits_hold sh
+  one_broken y e n g = n ∙ simp (sym (e g) ∙ n, and-false) at (edits_hold_lem sh)
 
-  pub all_held : (x y z : Bool) → x ≡ in_order sh.edits → not x ≡ false → (H → y ≡ each_holds sh) → not y ≡ false
+  pub all_held : (x y z : Bool) → x ≡ in_order sh.edits → x ≡ true → (H → y ≡ each_holds sh) → y ≡ true
       → (H → in_order sh.edits ≡ true → z ≡ all (λ b. paired none (edits_in sh b)) (from 0 (block_count sh))) → H → z ≡ edits_hold sh
-  all_held x y z e n f m k g = let o = sym e ∙ not-false x n in k g o ∙ rw (o, sym (f g) ∙ not-false y m) at (edits_hold_lem sh)
+  all_held x y z e n f m k g = let o = sym e ∙ n in k g o ∙ rw (o, sym (f g) ∙ m) at (edits_hold_lem sh)

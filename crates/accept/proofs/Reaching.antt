@@ -19,8 +19,9 @@ use Rattle.bits.specs.declared.sets.NumberSet.{NumberSet}
 use Rattle.bits.proofs.Members.{has_set_of, set_of_same}
 use Rattle.rules.specs.Sheet.{Sheet, block_count, succs_of}
 use Rattle.rules.specs.Accept.{is_entry, blocks_from0, further, reached_in, is_reached, each_block, Reached, entry, next}
-use Rattle.entity.specs.declared.sets.FoundBlock.{FoundBlock}
-use Rattle.entity.specs.declared.sets.FoundBlock.TheVariants.{Nothing}
+use Rattle.std.specs.Prelude.{Some, None}
+use Rattle.std.specs.Prelude as Code
+use Rattle.entity.specs.declared.numbers.Block.{Block}
 use Rattle.rules.proofs.Refusals.{in_limits}
 use Rattle.table.specs.Rows.{count_in}
 use Rattle.table.specs.Sheet.{sheet_in}
@@ -43,7 +44,6 @@ or_left a b e = rw e
 
 -- one of a list
 pub any_at : {A : Type 0} (f : A → Bool) (d : A) (l : List A) → any f l ≡ true → (j : ℕ) × (j < length l) × (f (get_or l j d) ≡ true)
-unfolding any
 any_at f d [] e = never e
 any_at f d (x ∷ l) e =
     by_bool (f x) (λ p. (0, omega arith, p))
@@ -109,7 +109,7 @@ module _ (sh : Sheet) where
 -- ---- as sets
 
 any_last : (f : ℕ → Bool) (a n : ℕ) → any f (from a (suc n)) ≡ (any f (from a n) || f (a + n))
-unfolding any from
+unfolding from
 any_last f a zero = let e : a + 0 ≡ a = omega arith in rw e (or-false (f a))
 any_last f a (suc n) =
     let e : suc a + n ≡ a + suc n = omega arith in
@@ -118,19 +118,16 @@ any_last f a (suc n) =
 pub any_more : (f : ℕ → Bool) (b : ℕ) → any f (from 0 (b + 1)) ≡ (any f (from 0 b) || f b)
 any_more f b = ap (λ (m : ℕ). any f (from 0 m)) (add-one b) ∙ any_last f 0 b ∙ ap (λ (m : ℕ). any f (from 0 b) || f m) (omega arith)
 
-module _ {t : List ℕ} (g : Ready t) where
+few : {t : List ℕ} → Ready t → block_count (sheet_in t) ≤ set_limit
+few {t} g = omega (arith, (in_limits (sheet_in t) g.limits).few_blocks)
+
+module _ (t : List ℕ) where
   abbrev sh : Sheet
   sh = sheet_in t
-
-  few : block_count sh ≤ set_limit
-  few = omega (arith, (in_limits sh g.limits).few_blocks)
 
   -- the entries up to b
   abbrev pub Entries : ℕ → NumberSet → Type 0
   Entries b s = s ≡ set_of (λ k. ltb k b && is_entry sh k)
-
-  pub entries_none : (s : NumberSet) → s ≡ set_of (λ k. false) → Entries 0 s
-  entries_none s e = e ∙ set_of_same (λ k. false) (λ k. ltb k 0 && is_entry sh k) (λ k h. rw (le-ltb k 0 (omega arith)))
 
   later_bit : (b k : ℕ) → (k ≡ b → ⊥) → ltb k (b + 1) ≡ ltb k b
   later_bit b k d = by_lt k b (λ h. rw (lt-ltb k b h, lt-ltb k (b + 1) (omega arith))) (λ h. rw (le-ltb k b h, le-ltb k (b + 1) (omega arith)))
@@ -368,7 +365,7 @@ pub grown_end : (t : List ℕ) (s x : NumberSet) (b c : ℕ) → c ≡ count_in 
 grown_end t s x b c q l u i = let z : b ≡ block_count (sheet_in t) = omega (arith, blocks_counted t q) in rw z at i
 
 module _ {t : List ℕ} (g : Ready t) where
-  pub reached_early : (s : NumberSet) (m : ℕ) → s ≡ reach_set (sheet_in t) m → {f : FoundBlock} → f ≡ lowest_of (sheet_in t) (has s) → f ≡ Nothing → Nothing ≡ lowest_of (sheet_in t) (is_reached (sheet_in t))
+  pub reached_early : (s : NumberSet) (m : ℕ) → s ≡ reach_set (sheet_in t) m → {f : Code.Option Block} → f ≡ lowest_of (sheet_in t) (has s) → f ≡ None → None ≡ lowest_of (sheet_in t) (is_reached (sheet_in t))
   unfolding each_block
   reached_early s m q e z =
       let sh = sheet_in t in
@@ -380,7 +377,7 @@ module _ {t : List ℕ} (g : Ready t) where
       let h : j < block_count sh = rw (from_long 0 (block_count sh)) at u in
       rw (block_at sh j h) (reach_only sh (few g) m j h (rw (block_at sh j h, q) at (all_at (has s) 0 (blocks_from0 sh) all-has j u))))))
 
-  pub reached_last : (s : NumberSet) (m c : ℕ) → c ≡ count_in t 6 → m ≤ c → c ≤ m → s ≡ reach_set (sheet_in t) m → {f : FoundBlock} → f ≡ lowest_of (sheet_in t) (has s) → f ≡ lowest_of (sheet_in t) (is_reached (sheet_in t))
+  pub reached_last : (s : NumberSet) (m c : ℕ) → c ≡ count_in t 6 → m ≤ c → c ≤ m → s ≡ reach_set (sheet_in t) m → {f : Code.Option Block} → f ≡ lowest_of (sheet_in t) (has s) → f ≡ lowest_of (sheet_in t) (is_reached (sheet_in t))
   reached_last s m c q l u i e =
       let z : m ≡ block_count (sheet_in t) = omega (arith, blocks_counted t q) in
       e ∙ lowest_same (sheet_in t) (has s) (is_reached (sheet_in t)) (λ k h. rw (i, z) (reach_is (sheet_in t) (few g) k h))

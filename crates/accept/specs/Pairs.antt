@@ -1,32 +1,34 @@
 -- Refusal 6 in the steps in which the code goes: the emergency spill that is not yet closed, home slots and shared units as sets, and what is asked of one edit.
-use Rattle.std.specs.Prelude.{Bool, true, false, cond, ◌&&◌, ◌||◌, List, map, ℕ, zero, suc, eqb}
+use Rattle.std.specs.Prelude.{Option, None, Some, Result, Ok, Err, Bool, true, false, cond, ◌&&◌, ◌||◌, List, map, ℕ, zero, suc, eqb}
 use Rattle.std.proofs.Math.Option.{none, some, Option-elim}
 use Rattle.laws.specs.Lists.{all, any, is_in, from}
 use Rattle.bits.specs.Sets.{set_of}
 use Rattle.bits.specs.declared.sets.NumberSet.{NumberSet}
 use Rattle.entity.specs.declared.forms.Edit.{Edit, TheVariants.Move, TheVariants.Remat, TheVariants.Espill, TheVariants.Ereload, TheVariants.Misplaced, TheVariants.Nothing}
+use Rattle.entity.specs.declared.numbers.PhysReg.{PhysReg}
+use Rattle.entity.specs.declared.numbers.SpillSlot.{SpillSlot}
 use Rattle.rules.specs.Sheet.{Sheet, EditRow, reg_count, units_of}
 use Rattle.rules.specs.Accept.{placed, paired, no_home, apart, pair_holds}
-use Rattle.accept.specs.declared.edits.Open.{Open, TheVariants.None, TheVariants.Spill, TheVariants.Broken}
+
+-- the emergency spill that is not yet closed, if any
+abbrev pub Held : Type 0
+Held = Option (SpillSlot × PhysReg)
 
 -- the rest of a block's edits goes on well after these
-unfoldable pub paired_by : Open → List Edit → Bool
+unfoldable pub paired_by : Held → List Edit → Bool
 paired_by None es = paired none es
-paired_by (Spill s r) es = paired (some (s.0, r.0)) es
-paired_by Broken es = false
+paired_by (Some h) es = paired (some (h.0.0, h.1.0)) es
 
--- after one edit more
-unfoldable pub after_edit : Edit → Open → Open
-after_edit (Move to p v) o = o
-after_edit (Remat to v) o = o
-after_edit (Misplaced to p) o = o
-after_edit Nothing o = o
-after_edit (Espill s r) None = Spill s r
-after_edit (Espill s r) (Spill a b) = Broken
-after_edit (Espill s r) Broken = Broken
-after_edit (Ereload r s) None = Broken
-after_edit (Ereload r s) (Spill a b) = cond (eqb a.0 s.0 && eqb b.0 r.0) None Broken
-after_edit (Ereload r s) Broken = Broken
+-- after one edit more; an error where the pairs are broken
+unfoldable pub after_edit : Edit → Held → Result Held (Unit {0})
+after_edit (Move to p v) h = Ok h
+after_edit (Remat to v) h = Ok h
+after_edit (Misplaced to p) h = Ok h
+after_edit Nothing h = Ok h
+after_edit (Espill s r) None = Ok (Some (s, r))
+after_edit (Espill s r) (Some h) = Err tt
+after_edit (Ereload r s) None = Err tt
+after_edit (Ereload r s) (Some h) = cond (eqb h.0.0 s.0 && eqb h.1.0 r.0) (Ok None) (Err tt)
 
 -- an emergency spill or reload, well placed or not
 unfoldable pub is_emergency : Edit → Bool

@@ -5,14 +5,13 @@ ghost use Rattle.laws.specs.Lists.{all, from};
 ghost use Rattle.bits.specs.Sets.{set_of};
 ghost use Rattle.rules.specs.Sheet.{home_of, block_count};
 ghost use Rattle.rules.specs.Accept.{edit_names, slot_exists, reg_exists, in_order, placed, paired, edits_in, pair_holds, edits_hold};
-ghost use Rattle.entity.specs.declared.forms.Edit.TheVariants.{Espill, Ereload};
 ghost use Rattle.table.specs.Sheet.{sheet_in};
 ghost use Rattle.table.specs.Index.{Ready};
 ghost use Rattle.table.specs.View.{edit_row};
-ghost use Rattle.accept.specs.Pairs.{paired_by, after_edit, is_emergency, edits_of, home_set, shared_set, some_emergency, edit_holds, each_holds, pair_apart};
+ghost use Rattle.accept.specs.Pairs.{after_edit, is_emergency, edits_of, home_set, shared_set, some_emergency, edit_holds, each_holds, pair_apart};
 
 use bits::sets::NumberSet;
-use bits::tables::read_u32;
+use bits::tables::read;
 use entity::cells::Word;
 use entity::forms::Edit;
 use entity::numbers::{Block, EditRow, Inst, PhysReg, SpillSlot, Value};
@@ -21,128 +20,53 @@ use names::lists::{any_in, with_all};
 use table::edits::sheet_edit;
 use table::index::{Range, edit_rows, insts_of};
 use table::rows::{Kind, count, row_of};
-use table::view::{FoundSlot, edit_at, home, units};
+use table::view::{edit_at, home, units};
 
 fn in_order(t: &[u32]) -> bool
     ensures { result ≡ in_order (sheet_in t.now).edits }
 {
-    let edits = count(t, Kind::EDIT);
     let mut last: u32 = 0;
-    let mut n: u32 = 0;
-    while n < edits {
+    for n in 0..count(t, Kind::EDIT) {
         let i = edit_at(t, EditRow(n));
         if i.0 < last {
             return false;
         }
         last = i.0;
-        n += 1;
     }
     true
 }
 
+#[tactic(auto, unfolding(rules::specs::Accept::placed))]
 fn placed(e: Edit) -> bool
     ensures { result ≡ placed e }
 {
-    match e {
-        Edit::Move {
-            to: _,
-            from: _,
-            value: _,
-        } => true,
-        Edit::Remat { to: _, value: _ } => true,
-        Edit::Espill { to: _, from: _ } => true,
-        Edit::Ereload { to: _, from: _ } => true,
-        Edit::Misplaced { to: _, from: _ } => false,
-        Edit::Nothing => true,
-    }
+    !matches!(e, Edit::Misplaced { .. })
 }
 
 // An emergency spill or reload, well placed or not.
 fn is_emergency(t: &[u32], n: EditRow) -> bool
     ensures { result ≡ is_emergency (edit_row (sheet_in t.now) n.0).edit }
 {
-    let word = read_u32(row_of(t, Kind::EDIT, n.0), 2);
-    (word == Word::ESPILL) | (word == Word::ERELOAD)
+    let word = read(row_of(t, Kind::EDIT, n.0), 2, 0);
+    word == Word::ESPILL || word == Word::ERELOAD
 }
 
 fn some_emergency(t: &[u32]) -> bool
     ensures { result ≡ some_emergency (sheet_in t.now) }
 {
-    let edits = count(t, Kind::EDIT);
-    let mut n: u32 = 0;
-    while n < edits {
-        if is_emergency(t, EditRow(n)) {
-            return true;
-        }
-        n += 1;
-    }
-    false
+    (0..count(t, Kind::EDIT)).any(|n| is_emergency(t, EditRow(n)))
 }
 
-// The emergency spill that is not yet closed, or that the pairs are broken.
-#[derive(Clone, Copy)]
-pub enum Open {
-    None,
-    Spill(SpillSlot, PhysReg),
-    Broken,
-}
-
-fn spill(held: Open, s: SpillSlot, r: PhysReg) -> Open
-    ensures { result ≡ after_edit (Espill s r) held }
-{
-    match held {
-        Open::None => Open::Spill(s, r),
-        Open::Spill(_, _) => Open::Broken,
-        Open::Broken => Open::Broken,
-    }
-}
-
-fn close(s: SpillSlot, r: PhysReg, to: PhysReg, from: SpillSlot) -> Open
-    ensures { result ≡ after_edit (Ereload to from) (Open.Spill s r) }
-{
-    if s.0 != from.0 {
-        return Open::Broken;
-    }
-    if r.0 != to.0 {
-        return Open::Broken;
-    }
-    Open::None
-}
-
-fn reload(held: Open, r: PhysReg, s: SpillSlot) -> Open
-    ensures { result ≡ after_edit (Ereload r s) held }
-{
-    match held {
-        Open::None => Open::Broken,
-        Open::Spill(to, from) => close(to, from, r, s),
-        Open::Broken => Open::Broken,
-    }
-}
-
-fn after(held: Open, e: Edit) -> Open
+// The emergency spill that is not yet closed, after one edit more; an error where the pairs are broken.
+#[tactic(auto, unfolding(crate::specs::Pairs::after_edit))]
+fn after(held: Option<(SpillSlot, PhysReg)>, e: Edit) -> Result<Option<(SpillSlot, PhysReg)>, ()>
     ensures { result ≡ after_edit e held }
 {
-    match e {
-        Edit::Move {
-            to: _,
-            from: _,
-            value: _,
-        } => held,
-        Edit::Remat { to: _, value: _ } => held,
-        Edit::Espill { to, from } => spill(held, to, from),
-        Edit::Ereload { to, from } => reload(held, to, from),
-        Edit::Misplaced { to: _, from: _ } => held,
-        Edit::Nothing => held,
-    }
-}
-
-fn is_closed(held: Open) -> bool
-    ensures { result ≡ paired_by held [] }
-{
-    match held {
-        Open::None => true,
-        Open::Spill(_, _) => false,
-        Open::Broken => false,
+    match (held, e) {
+        (None, Edit::Espill { to, from }) => Ok(Some((to, from))),
+        (Some((s, r)), Edit::Ereload { to, from }) if s == from && r == to => Ok(None),
+        (_, Edit::Espill { .. } | Edit::Ereload { .. }) => Err(()),
+        _ => Ok(held),
     }
 }
 
@@ -167,35 +91,28 @@ fn paired_in(t: &[u32], b: Block) -> bool
     ensures { Ready t.now → in_order (sheet_in t.now).edits ≡ true → result ≡ paired none (edits_in (sheet_in t.now) b.0) }
 {
     let rows = edits_in(t, b);
-    let mut held = Open::None;
-    let mut n = rows.from;
-    while n < rows.to {
-        held = after(held, sheet_edit(t, EditRow(n)));
-        n += 1;
+    let mut held = None;
+    for n in rows.from..rows.to {
+        let Ok(next) = after(held, sheet_edit(t, EditRow(n))) else {
+            return false;
+        };
+        held = next;
     }
-    is_closed(held)
+    held.is_none()
 }
 
 fn all_paired(t: &[u32]) -> bool
     ensures { Ready t.now → in_order (sheet_in t.now).edits ≡ true
         → result ≡ all (λ b. paired none (edits_in (sheet_in t.now) b)) (from 0 (block_count (sheet_in t.now))) }
 {
-    let blocks = count(t, Kind::BLOCK);
-    let mut b: u32 = 0;
-    while b < blocks {
-        if !paired_in(t, Block(b)) {
-            return false;
-        }
-        b += 1;
-    }
-    true
+    (0..count(t, Kind::BLOCK)).all(|b| paired_in(t, Block(b)))
 }
 
 // The set with the home slot of v, if any.
 fn with_home(t: &[u32], s: SlotSet, v: Value) -> SlotSet
     ensures { (f : ℕ → Bool) → s.0 ≡ set_of f → result.0 ≡ set_of (λ k. f k || Option-elim (home_of (sheet_in t.now) v.0) false (eqb k)) }
 {
-    let FoundSlot::At(h) = home(t, v) else {
+    let Some(h) = home(t, v) else {
         return s;
     };
     s.insert(h)
@@ -204,12 +121,9 @@ fn with_home(t: &[u32], s: SlotSet, v: Value) -> SlotSet
 fn home_slots(t: &[u32]) -> SlotSet
     ensures { result.0 ≡ home_set (sheet_in t.now) }
 {
-    let values = count(t, Kind::VALUE);
     let mut s = SlotSet::empty();
-    let mut v: u32 = 0;
-    while v < values {
+    for v in 0..count(t, Kind::VALUE) {
         s = with_home(t, s, Value(v));
-        v += 1;
     }
     s
 }
@@ -218,17 +132,14 @@ fn home_slots(t: &[u32]) -> SlotSet
 fn shared_units(t: &[u32]) -> UnitSet
     ensures { result.0 ≡ shared_set (sheet_in t.now) }
 {
-    let regs = count(t, Kind::REG);
     let mut seen = NumberSet::empty();
     let mut shared = NumberSet::empty();
-    let mut r: u32 = 0;
-    while r < regs {
+    for r in 0..count(t, Kind::REG) {
         let own = with_all(NumberSet::empty(), units(t, PhysReg(r)));
         shared = shared.join(seen.meet(own));
         seen = seen.join(own);
-        r += 1;
     }
-    UnitSet(shared)
+    UnitSet::of(shared)
 }
 
 // A pair's slot is no home slot, and its register shares no unit with another.
@@ -236,38 +147,27 @@ fn pair_apart(t: &[u32], homes: SlotSet, shared: UnitSet, s: SpillSlot, r: PhysR
     ensures { Ready t.now → homes.0 ≡ home_set (sheet_in t.now) → shared.0 ≡ shared_set (sheet_in t.now)
         → slot_exists (sheet_in t.now) s.0 ≡ true → reg_exists (sheet_in t.now) r.0 ≡ true → result ≡ pair_apart (sheet_in t.now) s.0 r.0 }
 {
-    if homes.contains(s) {
-        return false;
-    }
-    !any_in(units(t, r), shared.0)
+    !homes.contains(s) && !any_in(units(t, r), shared.0)
 }
 
+#[tactic(auto, unfolding(rules::specs::Accept::pair_holds, rules::specs::Accept::edit_names, crate::specs::Pairs::pair_apart))]
 fn pair_holds(t: &[u32], homes: SlotSet, shared: UnitSet, e: Edit) -> bool
     ensures { Ready t.now → homes.0 ≡ home_set (sheet_in t.now) → shared.0 ≡ shared_set (sheet_in t.now)
         → edit_names (sheet_in t.now) e ≡ true → result ≡ pair_holds (sheet_in t.now) e }
 {
     match e {
-        Edit::Move {
-            to: _,
-            from: _,
-            value: _,
-        } => true,
-        Edit::Remat { to: _, value: _ } => true,
         Edit::Espill { to, from } => pair_apart(t, homes, shared, to, from),
         Edit::Ereload { to, from } => pair_apart(t, homes, shared, from, to),
-        Edit::Misplaced { to: _, from: _ } => true,
-        Edit::Nothing => true,
+        _ => true,
     }
 }
 
+#[tactic(auto, unfolding(crate::specs::Pairs::edit_holds))]
 fn edit_holds(t: &[u32], homes: SlotSet, shared: UnitSet, e: Edit) -> bool
     ensures { Ready t.now → homes.0 ≡ home_set (sheet_in t.now) → shared.0 ≡ shared_set (sheet_in t.now)
         → edit_names (sheet_in t.now) e ≡ true → result ≡ edit_holds (sheet_in t.now) e }
 {
-    if !placed(e) {
-        return false;
-    }
-    pair_holds(t, homes, shared, e)
+    placed(e) && pair_holds(t, homes, shared, e)
 }
 
 // Each edit by itself.
@@ -276,28 +176,11 @@ fn each_holds(t: &[u32]) -> bool
 {
     let homes = home_slots(t);
     let shared = shared_units(t);
-    let edits = count(t, Kind::EDIT);
-    let mut n: u32 = 0;
-    while n < edits {
-        if !edit_holds(t, homes, shared, sheet_edit(t, EditRow(n))) {
-            return false;
-        }
-        n += 1;
-    }
-    true
+    (0..count(t, Kind::EDIT)).all(|n| edit_holds(t, homes, shared, sheet_edit(t, EditRow(n))))
 }
 
 pub fn edits_hold(t: &[u32]) -> bool
     ensures { Ready t.now → result ≡ edits_hold (sheet_in t.now) }
 {
-    if !in_order(t) {
-        return false;
-    }
-    if !some_emergency(t) {
-        return true;
-    }
-    if !each_holds(t) {
-        return false;
-    }
-    all_paired(t)
+    in_order(t) && (!some_emergency(t) || each_holds(t) && all_paired(t))
 }

@@ -30,7 +30,7 @@ each_number f n e b h =
     sym (ap f (from_at 0 n b h ∙ z)) ∙ all_at f 0 (from 0 n) e b l
 
 in_all : (f : ℕ → Bool) (l : List ℕ) (t : ℕ) → all f l ≡ true → is_in t l ≡ true → f t ≡ true
-unfolding all is_in any
+unfolding is_in
 in_all f [] t e m = absurd (false≢true m)
 in_all f (y ∷ ys) t e m =
     by_bool (eqb t y) (λ p. let q : t ≡ y = eqb-true t y p in rw q (and_left (f y) (all f ys) e))
@@ -38,14 +38,12 @@ in_all f (y ∷ ys) t e m =
 
 module _ {A : Type 0} (f g : A → Bool) where
   all_left : (l : List A) → all (λ x. f x && g x) l ≡ true → all f l ≡ true
-  unfolding all
   all_left [] e = refl
   all_left (x ∷ l) e =
       let p = and_left (f x && g x) (all (λ x. f x && g x) l) e in
       rw (and_left (f x) (g x) p) (all_left l (and_right (f x && g x) (all (λ x. f x && g x) l) e))
 
   all_right : (l : List A) → all (λ x. f x && g x) l ≡ true → all g l ≡ true
-  unfolding all
   all_right [] e = refl
   all_right (x ∷ l) e =
       let p = and_left (f x && g x) (all (λ x. f x && g x) l) e in
@@ -55,7 +53,7 @@ module _ {A : Type 0} (f g : A → Bool) where
 
 -- no check fails: each is kept
 all_kept : (cs : List (Bool × Refusal)) → first_refusal cs ≡ none → all (λ c. c.0) cs ≡ true
-unfolding first_refusal all
+unfolding first_refusal
 all_kept [] e = refl
 all_kept (c ∷ cs) e = by_bool c.0 (λ p. rw p (all_kept cs (rw p at e))) (λ p. some_ne_none {a = c.1} (rw p) e)
 
@@ -72,7 +70,7 @@ pub record Passed (sh : Sheet) : Type 0 where
   pub edits : edits_hold sh ≡ true
 
 pub passed : (sh : Sheet) → first_refusal (checks sh) ≡ none → Passed sh
-unfolding checks block_checks block_check all
+unfolding checks block_checks block_check
 passed sh e =
     let e₀ = all_kept (checks sh) e in
     let e₁ = and_right (within_limits sh) _ e₀ in

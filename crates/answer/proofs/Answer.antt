@@ -2,7 +2,6 @@
 use mathlib.Core.Path.{◌≡◌, refl, sym, ap, ap₂, ◌∙◌}
 use mathlib.Core.List.{List, [], ◌∷◌, map, flat_map, zip, map-map}
 use Prim.Native.Nat.{ℕ, ◌≤◌, ◌<◌}
-use native.Mathlib.Nat.{zero-add}
 use native.Mathlib.Omega.{arith}
 use lib.ListN.{length, get_or, take}
 use lib.Seq.{ext_get_or, length-take-le, get_or-take}
@@ -21,6 +20,7 @@ use Rattle.table.specs.Index.{Ready}
 use Rattle.table.specs.Edits.{edit_in, edits_in}
 use Rattle.table.proofs.Sheets.{edit_row_of, edits_are, long_of, members_long, members_at}
 use Rattle.answer.specs.Text.{over, Laid}
+use Rattle.answer.specs.declared.text.Writer.{Writer}
 use Rattle.answer.specs.Rows.{edit_at, count_line, rendered, answer_most, Stands}
 use Rattle.table.specs.Written.{EditCells}
 use Rattle.answer.proofs.Laying.{laid_as}
@@ -94,11 +94,11 @@ pub answer_most_lem : {t edits places counts : List ℕ} {w : Walk} → Stands t
 answer_most_lem x c = rw (answer_is x) at (answer_few x c)
 
 -- and where it lies
-module _ (t edits places counts out new : List ℕ) (r : ℕ) where
-  pub answered : Narrow counts → Laid (rendered t edits places counts) out 0 new r → (w : Walk) → Stands t edits places counts w
-      → (r ≡ length (output (sheet_in t) w)) × (new ≡ over out 0 (output (sheet_in t) w))
-  answered c l w x =
+module _ (t edits places counts : List ℕ) {old new : Writer} where
+  pub answered : Narrow counts → old.at ≡ 0 → Laid (rendered t edits places counts) old new → (w : Walk) → Stands t edits places counts w
+      → (new.at ≡ length (output (sheet_in t) w)) × (new.out.now ≡ over old.out.now 0 (output (sheet_in t) w))
+  answered c z l w x =
       let text : List ℕ = output (sheet_in t) w in
       let b : length text ≤ 18446744073709551615 = omega (arith, answer_most_lem x c, most_few x) in
       let y = (laid_as (answer_is x) l).laid (omega arith) in
-      (y.1 ∙ zero-add (length text), y.0)
+      (omega (arith, y.1), y.0 ∙ ap (λ (i : ℕ). over old.out.now i text) z)

@@ -22,6 +22,7 @@ use Rattle.table.specs.Index.{range_in}
 use Rattle.table.specs.View.{edit_row}
 use Rattle.table.specs.declared.index.Range.{Range}
 use Rattle.answer.specs.Text.{Laid, cell_text}
+use Rattle.answer.specs.declared.text.Writer.{Writer}
 use Rattle.answer.specs.Rows.{fold_line, fold_at, edit_at, count_line}
 use Rattle.table.specs.Written.{four_in}
 use Rattle.answer.proofs.Laying.{laid_none, laid_then, laid_as}
@@ -40,15 +41,15 @@ rows_more f n =
     let e : 0 + n ≡ n = omega arith in
     ap (λ (i : ℕ). flat_map f (from 0 n) ++ f i) (sym e) ∙ rows_from_lem f 0 n ∙ ap (λ (i : ℕ). flat_map f (from 0 i)) (sym (add-one n))
 
-pub laid_no_row : (f : ℕ → List ℕ) (o : List ℕ) (at : ℕ) → Laid (flat_map f (from 0 0)) o at o at
+pub laid_no_row : (f : ℕ → List ℕ) (w : Writer) → Laid (flat_map f (from 0 0)) w w
 unfolding flat_map from
-laid_no_row f o at = laid_none o at
+laid_no_row f w = laid_none w
 
 -- rows 0 to n, the last one laid now
-pub laid_row : (f : ℕ → List ℕ) (n : ℕ) {o m m' : List ℕ} {at k j : ℕ} → Laid (flat_map f (from 0 n)) o at m k → Laid (f n) m k m' j → Laid (flat_map f (from 0 (n + 1))) o at m' j
+pub laid_row : (f : ℕ → List ℕ) (n : ℕ) {o m m' : Writer} → Laid (flat_map f (from 0 n)) o m → Laid (f n) m m' → Laid (flat_map f (from 0 (n + 1))) o m'
 laid_row f n p q = laid_as (rows_more f n) (laid_then p q)
 
-pub laid_rows : (f : ℕ → List ℕ) (n m k : ℕ) {o l : List ℕ} {at j : ℕ} → n ≤ m → m ≤ n → m ≡ k → Laid (flat_map f (from 0 n)) o at l j → Laid (flat_map f (from 0 k)) o at l j
+pub laid_rows : (f : ℕ → List ℕ) (n m k : ℕ) {o w : Writer} → n ≤ m → m ≤ n → m ≡ k → Laid (flat_map f (from 0 n)) o w → Laid (flat_map f (from 0 k)) o w
 laid_rows f n m k h u e p = let z : n ≡ k = omega arith in laid_as (ap (λ (i : ℕ). flat_map f (from 0 i)) z) p
 
 -- ---- fields

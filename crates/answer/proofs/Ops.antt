@@ -22,7 +22,7 @@ use Rattle.table.specs.Written.{PlaceCell}
 
 -- what holds of each holds of those that are kept, with the test
 keep_both : {A : Type 0} (p f : A → Bool) (l : List A) → all p l ≡ true → all (λ x. p x && f x) (keep f l) ≡ true
-unfolding all keep
+unfolding keep
 keep_both p f [] e = refl
 keep_both p f (x ∷ l) e =
     let r = keep_both p f l (and_right (p x) (all p l) e) in

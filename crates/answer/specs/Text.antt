@@ -4,14 +4,16 @@ use Rattle.std.proofs.lemmas.List.Edits.{sets}
 use Rattle.rules.specs.Words.{ereload_word, espill_word, move_word, none_word, remat_word}
 use Rattle.rules.specs.Text.{bytes}
 use Rattle.rules.specs.Cells.{digits_of, number_limit, reg_mark, slot_mark}
+use Rattle.answer.specs.declared.text.Writer.{Writer}
 
 -- `out` with the bytes of `text` stored one after the other from `at` on; what falls past the end is not stored
 unfoldable pub over : List ℕ → ℕ → List ℕ → List ℕ
 over out at text = sets out at text
 
--- where places fit 64 bits: `new` is `old` with `text` laid over it from `at` on, and `next` is the place after it
-pub record Laid (text old : List ℕ) (at : ℕ) (new : List ℕ) (next : ℕ) : Type 0 where
-  pub laid : at + length text ≤ 18446744073709551615 → (new ≡ over old at text) × (next ≡ at + length text)
+-- where places fit 64 bits: `new` is `old` with `text` laid over its buffer from its place on, and its place is the one after it; its buffer is that of `old`
+pub record Laid (text : List ℕ) (old new : Writer) : Type 0 where
+  pub laid : old.at + length text ≤ 18446744073709551615 → (new.out.now ≡ over old.out.now old.at text) × (new.at ≡ old.at + length text)
+  pub kept : new.out.ghost_name ≡ old.out.ghost_name
 
 -- the words that stand in an edit row; `-` for any other
 unfoldable pub word_text : ℕ → List ℕ

@@ -1,6 +1,5 @@
 // What every typed set and table of `entity` stands on: sets of small numbers by value, and total reads and stores.
 #![tactic(auto)]
 
-pub mod numbers;
 pub mod sets;
 pub mod tables;

@@ -1,14 +1,8 @@
 // A set of numbers below `NumberSet::LIMIT`: a value whose operations give back the new set.
 // A number of the limit or more is in no set, and putting it in changes nothing.
-ghost use Rattle.std.specs.Prelude.{◌≡◌, false, ◌&&◌, ◌||◌, not, eqb};
+ghost use Rattle.std.specs.Prelude.{◌≡◌, false, ◌&&◌, ◌||◌, not, eqb, Some, None};
 ghost use Rattle.laws.specs.First.{first};
 ghost use Rattle.bits.specs.Sets.{has, set_of, set_limit, Members, OnlySet};
-
-#[derive(Clone, Copy)]
-pub enum Found {
-    At(u32),
-    Nothing,
-}
 
 #[derive(Clone, Copy)]
 pub struct NumberSet {
@@ -62,10 +56,8 @@ impl NumberSet {
     pub fn meet(mut self, other: NumberSet) -> NumberSet
         ensures { result ≡ set_of (λ k. has self k && has other k) }
     {
-        let mut i: usize = 0;
-        while i < NumberSet::WORDS {
+        for i in 0..NumberSet::WORDS {
             self.words[i] = self.words[i] & other.words[i];
-            i += 1;
         }
         self
     }
@@ -73,26 +65,22 @@ impl NumberSet {
     pub fn join(mut self, other: NumberSet) -> NumberSet
         ensures { result ≡ set_of (λ k. has self k || has other k) }
     {
-        let mut i: usize = 0;
-        while i < NumberSet::WORDS {
+        for i in 0..NumberSet::WORDS {
             self.words[i] = self.words[i] | other.words[i];
-            i += 1;
         }
         self
     }
 
-    pub fn lowest(self) -> Found
-        ensures { result ≡ first Found.At Found.Nothing (has self) 0 set_limit }
+    pub fn lowest(self) -> Option<u32>
+        ensures { result ≡ first Some None (has self) 0 set_limit }
     {
-        let mut i: usize = 0;
-        while i < NumberSet::WORDS {
+        for i in 0..NumberSet::WORDS {
             let t = u64::trailing_zeros(self.words[i]);
             if t < 64 {
-                return Found::At(i as u32 * 64 + t);
+                return Some(i as u32 * 64 + t);
             }
-            i += 1;
         }
-        Found::Nothing
+        None
     }
 }
 

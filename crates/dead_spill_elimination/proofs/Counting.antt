@@ -11,6 +11,8 @@ use lib.ListN.{length, get_or, set, length-set}
 use lib.Seq.{get_or-set_same, get_or-set_other, ext_get_or}
 use Rattle.laws.specs.Fold.{run}
 use Rattle.laws.proofs.Cases.{by_bool, by_eq, never}
+use Rattle.entity.specs.declared.numbers.Value.{Value}
+use Rattle.entity.specs.declared.forms.Place.{Place}
 use Rattle.entity.specs.declared.forms.Edit.{Edit}
 use Rattle.entity.specs.declared.forms.Edit.TheVariants.{Move, Remat, Espill, Ereload, Misplaced, Nothing}
 use Rattle.rules.specs.Forward.{count, dead_spill, dead_remat}
@@ -168,3 +170,11 @@ count_bound (e ∷ es) (x ∷ c) k cs = omega (arith, struck_more cs (e, x) k, c
 
 pub counted_as : (cs : List ℕ) {l : List ℕ} {e f : Edit} → e ≡ f → l ≡ for f cs → l ≡ struck cs (e, Nothing)
 counted_as cs {e = e} q h = h ∙ sym (struck_for cs e ∙ ap (λ (x : Edit). for x cs) q)
+
+pub counted_none : (cs : List ℕ) (e : Edit) → ((t f : Place) (v : Value) → e ≡ Move t f v → ⊥) → ((t : Place) (v : Value) → e ≡ Remat t v → ⊥) → cs ≡ struck cs (e, Nothing)
+counted_none cs (Move t f v) m r = absurd (m t f v refl)
+counted_none cs (Remat t v) m r = absurd (r t v refl)
+counted_none cs (Espill d r') m r = counted_as cs {e = Espill d r'} refl refl
+counted_none cs (Ereload r' d) m r = counted_as cs {e = Ereload r' d} refl refl
+counted_none cs (Misplaced t f) m r = counted_as cs {e = Misplaced t f} refl refl
+counted_none cs Nothing m r = counted_as cs {e = Nothing} refl refl

@@ -64,7 +64,7 @@ map_append f (x ∷ xs) ys = ap (λ (l : List _). f x ∷ l) (map_append f xs ys
 -- ---- tests of each
 
 list_named : (sh : Sheet) (rows : List ListRow) (b x : ℕ) → all (λ r. block_exists sh r.at && all (block_exists sh) r.list) rows ≡ true → In x (list_at sh rows b) → x < block_count sh
-unfolding all list_at keep flat_map
+unfolding list_at keep flat_map
 list_named sh [] b x e h = absurd h
 list_named sh (r ∷ rows) b x e h =
     let here : block_exists sh r.at && all (block_exists sh) r.list ≡ true = and_left _ (all (λ r. block_exists sh r.at && all (block_exists sh) r.list) rows) e in

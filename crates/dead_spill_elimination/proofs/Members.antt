@@ -13,7 +13,7 @@ use lib.Dec.{eqb}
 use lib.ListN.{get_or}
 use borrow.Author.Tests.{eq-eqb, ne_eqb}
 use Rattle.laws.specs.Fold.{run}
-use Rattle.laws.specs.Lists.{any, is_in}
+use Rattle.laws.specs.Lists.{is_in}
 use Rattle.laws.proofs.Cases.{by_bool, by_eq, by_lt}
 use Rattle.laws.proofs.Lists.{is_append, is_keep}
 use Rattle.bits.specs.Sets.{has, set_of}
@@ -34,14 +34,14 @@ use Rattle.rules.proofs.Words.{defg_word, earlyg_word, useg_word}
 use Rattle.rules.specs.Cells.{word, find, words}
 use Rattle.rules.specs.Sheet.{Sheet, OpRow, is_use, place_of, kind_of}
 use Rattle.rules.specs.Forward.{members, all_defs}
-use Rattle.rules.specs.Function.{edit, slot_of, into, over, to_place}
+use Rattle.rules.specs.Function.{edit, slot_of, into, over}
 use Rattle.rules.specs.Sweep.{with, with_all, without_all, wanted_by, wanted_before}
 use Rattle.table.specs.Sheet.{sheet_in}
 use Rattle.table.specs.Rows.{kind_row}
 use Rattle.table.specs.View.{op_row}
 use Rattle.table.proofs.Sheets.{ops_are, part_of}
 use Rattle.table.specs.Edits.{place_in}
-use Rattle.dead_spill_elimination.specs.Slots.{Same, Low, LowReads, lacks, defs_at, uses_at}
+use Rattle.dead_spill_elimination.specs.Slots.{Same, Low, LowReads, defs_at, uses_at}
 
 -- ---- membership
 
@@ -51,11 +51,11 @@ module _ (k : ℕ) where
   is_without_all ds A = is_keep k (λ s. not (is_in s ds)) A
 
   pub is_with : (q : ℕ) (A : List ℕ) → is_in k (with q A) ≡ (eqb k q || is_in k A)
-  unfolding with is_in any
+  unfolding with is_in
   is_with q A = by_bool (is_in q A) (λ p. rw p (by_eq k q (λ e. rw (eq-eqb k q e, e) p) (λ e. rw (ne_eqb k q e)))) (λ p. rw p)
 
   pub is_with_all : (qs A : List ℕ) → is_in k (with_all qs A) ≡ (is_in k qs || is_in k A)
-  unfolding with_all run is_in any
+  unfolding with_all run is_in
   is_with_all [] A = refl
   is_with_all (q ∷ qs) A = is_with_all qs (with q A) ∙ rw (is_with q A) (turn (eqb k q) (is_in k qs) (is_in k A))
     where
@@ -65,7 +65,7 @@ module _ (k : ℕ) where
       turn false b c = refl
 
   pub is_one : (d : ℕ) → is_in k (d ∷ []) ≡ eqb k d
-  unfolding is_in any
+  unfolding is_in
   is_one d = by_bool (eqb k d) (λ p. rw p) (λ p. rw p)
 
 -- ---- sets and lists
@@ -79,7 +79,7 @@ module _ (S T : NumberSet) (A : List ℕ) (h : Same S A) where
   made_same f B q e l = rw q (record { at = λ k. by_lt k 256 (λ u. has_set_of f k u ∙ e k) (λ u. has_past f k u ∙ sym (l k (omega arith))); low = l })
 
   pub same_with : (s : ℕ) → s < slot_limit → T ≡ set_of (λ k. has S k || eqb k s) → Same T (s ∷ A)
-  unfolding is_in any
+  unfolding is_in
   same_with s l q =
       made_same (λ k. has S k || eqb k s) (s ∷ A) q
       (λ k. rw (h.at k) (by_bool (is_in k A) (λ p. rw p (by_bool (eqb k s) (λ u. rw u) (λ u. rw u))) (λ p. rw p (by_bool (eqb k s) (λ u. rw u) (λ u. rw u)))))
@@ -91,7 +91,7 @@ module _ (S T : NumberSet) (A : List ℕ) (h : Same S A) where
       made_same (λ k. has S k && not (eqb k d)) (without_all (d ∷ []) A) q (λ k. ap (λ (b : Bool). b && not (eqb k d)) (h.at k) ∙ sym (e k)) (λ k m. e k ∙ rw (h.low k m))
 
 pub same_all : (S : NumberSet) (A : List ℕ) → Same S A → Same S (without_all [] A)
-unfolding is_in any
+unfolding is_in
 same_all S A h = same_in S A (without_all [] A) (λ k. sym (is_without_all k [] A ∙ none (is_in k A))) h
   where
     none : (b : Bool) → (b && not false) ≡ b
@@ -117,9 +117,6 @@ module _ (S : NumberSet) (A : List ℕ) where
   pub reg_without : {p : Place} {r : PhysReg} → p ≡ Reg r → Same S A → Same S (without_all (slot_of p) A)
   unfolding slot_of
   reg_without q = subst (λ (x : Place). Same S A → Same S (without_all (slot_of x) A)) (sym q) (λ h. same_all S A h)
-
-pub place_lacks : (S : NumberSet) {p : Place} {s : SpillSlot} → p ≡ Slot s → lacks S (to_place p) ≡ not (has S s.0)
-place_lacks S q = ap (λ (x : Place). lacks S (to_place x)) q
 
 -- ---- edits
 

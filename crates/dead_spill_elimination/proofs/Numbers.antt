@@ -120,7 +120,7 @@ module _ {A B : Type 0} (q : A → Bool) (G : ℕ → List B) (d : A) where
 -- one of them has k
 module _ {A : Type 0} (q : A → Bool) (G : ℕ → List ℕ) (d : A) (k : ℕ) where
   pub any_rows : (f : ℕ → Bool) (l : List A) (s : ℕ) → ((m : ℕ) → m < length l → f (s + m) ≡ (q (get_or l m d) && is_in k (G (s + m)))) → any f (from s (length l)) ≡ is_in k (flat_map G (numbers_of q s l))
-  unfolding keep zip zip_with from flat_map any is_in
+  unfolding keep zip zip_with from flat_map is_in
   any_rows f [] s h = refl
   any_rows f (a ∷ l) s h =
       let z : s + 0 ≡ s = omega arith in

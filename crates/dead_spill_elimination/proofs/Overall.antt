@@ -102,26 +102,21 @@ module _ {t touched edits marks₀ counts₀ ends : List ℕ} (h : All t touched
 -- ---- the loop
 
 abbrev pub Overall : List ℕ → List ℕ → List ℕ → List ℕ → List ℕ → List ℕ → List ℕ → List ℕ → ℕ → Type 0
-Overall t touched ends edits marks₀ counts₀ marks counts b =
-    (length marks ≡ length marks₀) × (length counts ≡ length counts₀) × ((h : All t touched edits marks₀ counts₀ ends) → At h marks counts b)
+Overall t touched ends edits marks₀ counts₀ marks counts b = (h : All t touched edits marks₀ counts₀ ends) → At h marks counts b
 
 module _ (t touched ends edits marks₀ counts₀ : List ℕ) where
   pub all_first : Overall t touched ends edits marks₀ counts₀ marks₀ counts₀ 0
-  all_first = (refl, refl, λ h. at_first h)
+  all_first h = at_first h
 
-  pub all_next : {marks counts marks' counts' : List ℕ} {S : NumberSet} {x : ℕ} (b : ℕ) → Overall t touched ends edits marks₀ counts₀ marks counts b → b < length ends
-      → length marks' ≡ length marks → length counts' ≡ length counts → x ≡ get_or ends b 0 → ((A : List ℕ) → Word x A → Same S A)
+  pub all_next : {marks counts marks' counts' : List ℕ} {S : NumberSet} {x : ℕ} (b : ℕ) → Overall t touched ends edits marks₀ counts₀ marks counts b → length marks ≡ length marks₀ → b < length ends
+      → x ≡ get_or ends b 0 → ((A : List ℕ) → Word x A → Same S A)
       → ((w : Work) → Linked t touched w.sheet w.places w.edits w.counts → Unstruck w (insts_of w.sheet b) → Pos w [] edits marks counts S
       → (S : NumberSet) × Pos w (items w.sheet b) edits marks' counts' S) → Overall t touched ends edits marks₀ counts₀ marks' counts' (b + 1)
-  all_next {marks} {counts} {marks'} {counts'} {S} {x} b g l e f q s k = (
-    e ∙ g.0,
-    f ∙ g.1,
-    λ h.
-        let a = g.2 h in
-        let same : Same S (get_or h.after b []) = s (get_or h.after b []) (λ n. ap (λ (y : ℕ). bit y n) q ∙ h.words b l n) in
-        let p = k (work h marks b) h.linked (λ i j u v. a.ahead b i j (omega arith) u v) (begun h marks counts b S g.0 a same) in
-        subst (At h marks' counts') (sym (add-one b)) (at_next h marks counts marks' counts' b p.0 l a p.1),
-  )
+  all_next {marks} {counts} {marks'} {counts'} {S} {x} b g m l q s k h =
+      let a = g h in
+      let same : Same S (get_or h.after b []) = s (get_or h.after b []) (λ n. ap (λ (y : ℕ). bit y n) q ∙ h.words b l n) in
+      let p = k (work h marks b) h.linked (λ i j u v. a.ahead b i j (omega arith) u v) (begun h marks counts b S m a same) in
+      subst (At h marks' counts') (sym (add-one b)) (at_next h marks counts marks' counts' b p.0 l a p.1)
 
   pub all_done : {marks counts : List ℕ} (b : ℕ) → Overall t touched ends edits marks₀ counts₀ marks counts b → length ends ≤ b → (h : All t touched edits marks₀ counts₀ ends) → Outcome h marks counts
-  all_done {marks} {counts} b g l h = at_done h marks counts b l (g.2 h)
+  all_done {marks} {counts} b g l h = at_done h marks counts b l (g h)

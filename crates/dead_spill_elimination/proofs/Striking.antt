@@ -158,37 +158,32 @@ passed_from n (suc m) j h = ⊎_elim (λ e. omega arith) (λ y. omega (arith, pa
 
 abbrev pub Edits : Range → List ℕ → List ℕ → List ℕ → NumberSet → List ℕ → List ℕ → NumberSet → ℕ → Type 0
 Edits r edits marks₀ counts₀ S₀ marks counts S n =
-    Down r n × (length marks ≡ length marks₀) × (length counts ≡ length counts₀)
-    × ((w : Work) (l : List Item) → Rows w (numbers r) l → Pos w l edits marks₀ counts₀ S₀ → Pos w (map row (passed r n) ++ l) edits marks counts S)
+    Down r n × ((w : Work) (l : List Item) → Rows w (numbers r) l → Pos w l edits marks₀ counts₀ S₀ → Pos w (map row (passed r n) ++ l) edits marks counts S)
 
 module _ (r : Range) (edits marks₀ counts₀ : List ℕ) (S₀ : NumberSet) where
   pub edits_first : Edits r edits marks₀ counts₀ S₀ marks₀ counts₀ S₀ r.to
   unfolding from
   edits_first = (
     inl refl,
-    refl,
-    refl,
     λ w l x p. let z : r.to - r.to ≡ 0 = omega arith in subst (λ (k : ℕ). Pos w (map row (from r.to k) ++ l) edits marks₀ counts₀ S₀) (sym z) p,
   )
 
   pub edits_next : {marks counts marks' counts' : List ℕ} {S S' : NumberSet} (n : ℕ) → Edits r edits marks₀ counts₀ S₀ marks counts S n → r.from < n
-      → length marks' ≡ length marks → length counts' ≡ length counts → Struck (n - 1) S edits marks counts marks' counts' S' → Edits r edits marks₀ counts₀ S₀ marks' counts' S' (n - 1)
-  edits_next {marks} {counts} {marks'} {counts'} {S} {S'} n g h a b s = (
+      → length marks' ≡ length marks → Struck (n - 1) S edits marks counts marks' counts' S' → Edits r edits marks₀ counts₀ S₀ marks' counts' S' (n - 1)
+  edits_next {marks} {counts} {marks'} {counts'} {S} {S'} n g h a s = (
     down_next r n g.0 h,
-    a ∙ g.1,
-    b ∙ g.2,
     λ w l x p.
         let m = at_most r n g.0 in
         let k : In (n - 1) (numbers r) = in_numbers r n g.0 h in
         let f : get_or (struck_from w (map row (passed r n) ++ l)) (n - 1) Nothing ≡ get_or w.edits (n - 1) Nothing =
         rows_skip w (passed r n) l (n - 1) (λ y. omega (arith, passed_from n (r.to - n) (n - 1) y)) ∙ x.fresh (n - 1) k in
         subst (λ (js : List ℕ). Pos w (map row js ++ l) edits marks' counts' S') (sym (from_next n r.to (omega arith) m))
-        (row_step w (map row (passed r n) ++ l) (n - 1) edits marks counts S (g.3 w l x p) (x.there (n - 1) k) f (x.low (n - 1) k) x.few a s),
+        (row_step w (map row (passed r n) ++ l) (n - 1) edits marks counts S (g.1 w l x p) (x.there (n - 1) k) f (x.low (n - 1) k) x.few a s),
   )
 
   pub edits_done : {marks counts : List ℕ} {S : NumberSet} (n : ℕ) → Edits r edits marks₀ counts₀ S₀ marks counts S n → n ≤ r.from
       → (w : Work) (l : List Item) → Rows w (numbers r) l → Pos w l edits marks₀ counts₀ S₀ → Pos w (map row (numbers r) ++ l) edits marks counts S
-  edits_done {marks = marks} {counts = counts} {S = S} n g h w l x p = subst (λ (js : List ℕ). Pos w (map row js ++ l) edits marks counts S) (passed_all r n g.0 h) (g.3 w l x p)
+  edits_done {marks = marks} {counts = counts} {S = S} n g h w l x p = subst (λ (js : List ℕ). Pos w (map row js ++ l) edits marks counts S) (passed_all r n g.0 h) (g.1 w l x p)
 
 -- ---- an instruction
 
@@ -229,16 +224,13 @@ Unstruck w is = (i j : ℕ) → In i is → In j (edits_at w.sheet i) → get_or
 
 abbrev pub Block : List ℕ → List ℕ → Range → List ℕ → List ℕ → List ℕ → NumberSet → List ℕ → List ℕ → NumberSet → ℕ → Type 0
 Block t touched r edits marks₀ counts₀ S₀ marks counts S n =
-    Down r n × (length marks ≡ length marks₀) × (length counts ≡ length counts₀)
-    × ((w : Work) → Linked t touched w.sheet w.places w.edits w.counts → Unstruck w (numbers r) → Pos w [] edits marks₀ counts₀ S₀ → Pos w (items_of w.sheet (passed r n)) edits marks counts S)
+    Down r n × ((w : Work) → Linked t touched w.sheet w.places w.edits w.counts → Unstruck w (numbers r) → Pos w [] edits marks₀ counts₀ S₀ → Pos w (items_of w.sheet (passed r n)) edits marks counts S)
 
 module _ (t touched : List ℕ) (r : Range) (edits marks₀ counts₀ : List ℕ) (S₀ : NumberSet) where
   pub block_first : Block t touched r edits marks₀ counts₀ S₀ marks₀ counts₀ S₀ r.to
   unfolding from flat_map
   block_first = (
     inl refl,
-    refl,
-    refl,
     λ w k x p. let z : r.to - r.to ≡ 0 = omega arith in subst (λ (n : ℕ). Pos w (items_of w.sheet (from r.to n)) edits marks₀ counts₀ S₀) (sym z) p,
   )
 
@@ -257,20 +249,17 @@ module _ (t touched : List ℕ) (r : Range) (edits marks₀ counts₀ : List ℕ
       }
 
   pub block_next : {marks counts marks' counts' : List ℕ} {S S' : NumberSet} (n : ℕ) → Block t touched r edits marks₀ counts₀ S₀ marks counts S n → r.from < n
-      → length marks' ≡ length marks → length counts' ≡ length counts
       → ((w : Work) (l : List Item) → Linked t touched w.sheet w.places w.edits w.counts → Rows w (edits_at w.sheet (n - 1)) l → Pos w l edits marks counts S
       → Pos w (map row (edits_at w.sheet (n - 1)) ++ (ins (n - 1) ∷ l)) edits marks' counts' S') → Block t touched r edits marks₀ counts₀ S₀ marks' counts' S' (n - 1)
   unfolding flat_map
-  block_next {marks} {counts} {marks'} {counts'} {S} {S'} n g h a b f = (
+  block_next {marks} {counts} {marks'} {counts'} {S} {S'} n g h f = (
     down_next r n g.0 h,
-    a ∙ g.1,
-    b ∙ g.2,
     λ w k x p.
         let m = at_most r n g.0 in
         let l : List Item = items_of w.sheet (passed r n) in
         subst (λ (js : List ℕ). Pos w (items_of w.sheet js) edits marks' counts' S') (sym (from_next n r.to (omega arith) m))
         (subst (λ (y : List Item). Pos w y edits marks' counts' S') (sym (append_assoc (map row (edits_at w.sheet (n - 1))) (ins (n - 1) ∷ []) l))
-        (f w l k (rows_there w n g.0 h k x) (g.3 w k x p))),
+        (f w l k (rows_there w n g.0 h k x) (g.1 w k x p))),
   )
 
   pub block_last : {marks counts : List ℕ} {S : NumberSet} (b n : ℕ) → Block t touched r edits marks₀ counts₀ S₀ marks counts S n → n ≤ r.from → r ≡ range_in t inst_index block_limit b
@@ -281,5 +270,5 @@ module _ (t touched : List ℕ) (r : Range) (edits marks₀ counts₀ : List ℕ
       let e : numbers r ≡ insts_of w.sheet b = ap numbers q ∙ k.insts b in (
         S,
         subst (λ (js : List ℕ). Pos w (items_of w.sheet js) edits marks counts S) (passed_all r n g.0 h ∙ e)
-            (g.3 w k (subst (λ (js : List ℕ). Unstruck w js) (sym e) x) p),
+            (g.1 w k (subst (λ (js : List ℕ). Unstruck w js) (sym e) x) p),
       )

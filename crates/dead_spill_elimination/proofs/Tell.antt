@@ -10,7 +10,7 @@ use lib.Pow.{pow_mono}
 use lib.ListN.{get_or}
 use borrow.Author.Tests.{eq-eqb, ne_eqb, lt-ltb, le-ltb}
 use Rattle.laws.specs.Digits.{bit, has_in}
-use Rattle.laws.specs.Lists.{any, is_in, from}
+use Rattle.laws.specs.Lists.{is_in, from}
 use Rattle.laws.proofs.Bit.{bit_zero, bit_of_and, bit_of_or, bit_not}
 use Rattle.laws.proofs.Words.{at_word}
 use Rattle.laws.proofs.Cases.{by_lt, by_eq}
@@ -59,7 +59,7 @@ word_of_set S A h s k =
 -- ---- the list of a word
 
 is_from : (k a n : ℕ) → a ≤ k → k < a + n → is_in k (from a n) ≡ true
-unfolding is_in any from
+unfolding is_in from
 is_from k a zero h l = absurd (omega arith)
 is_from k a (suc n) h l = by_eq k a (λ e. rw (eq-eqb k a e)) (λ e. rw (ne_eqb k a e) (is_from k (suc a) n (omega arith) (omega arith)))
 

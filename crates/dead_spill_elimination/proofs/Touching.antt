@@ -3,7 +3,7 @@ use mathlib.Core.Path.{◌≡◌, refl, sym, ◌∙◌, ap}
 use mathlib.Core.Logic.{inl}
 use mathlib.Core.Bool.{Bool, true, false, ◌&&◌, ◌||◌}
 use mathlib.Core.List.{List, []}
-use Prim.Native.Nat.{ℕ, zero, suc, ◌+◌, ◌*◌, ◌%◌, ◌≤◌, ◌<◌}
+use Prim.Native.Nat.{ℕ, zero, suc, ◌+◌, ◌*◌, ◌%◌, ◌<◌}
 use native.Mathlib.Numerals.{add-one}
 use native.Mathlib.Omega.{arith}
 use lib.Bits.{bit_or}
@@ -23,7 +23,7 @@ use Rattle.entity.specs.declared.forms.Place.TheVariants.{Reg, Slot}
 use Rattle.rules.specs.Words.{def_word, early_word, use_word}
 use Rattle.rules.specs.Sheet.{place_of}
 use Rattle.rules.specs.Function.{slot_of}
-use Rattle.table.specs.Rows.{count_in, kind_row}
+use Rattle.table.specs.Rows.{kind_row}
 use Rattle.dead_spill_elimination.specs.Slots.{Low, defs_at, uses_at}
 use Rattle.dead_spill_elimination.specs.Touched.{place_word, added, touch_by, touched_to}
 use Rattle.dead_spill_elimination.proofs.Members.{is_one, defs_is, uses_is}
@@ -33,7 +33,7 @@ none_or true = refl
 none_or false = refl
 
 any_more : (f : ℕ → Bool) (a n : ℕ) → any f (from a (suc n)) ≡ (any f (from a n) || f (a + n))
-unfolding any from
+unfolding from
 any_more f a zero = let z : a + 0 ≡ a = omega arith in rw z (none_or (f a))
 any_more f a (suc n) = let z : suc a + n ≡ a + suc n = omega arith in rw (any_more f (suc a) n, z) (turn (f a) (any f (from (suc a) n)) (f (a + suc n)))
   where
@@ -44,7 +44,7 @@ any_more f a (suc n) = let z : suc a + n ≡ a + suc n = omega arith in rw (any_
 -- ---- one operand
 
 place_bit : (x k : ℕ) (p : Place) → Low (slot_of p) → bit (bit_or x (place_word p)) k ≡ (bit x k || is_in k (slot_of p))
-unfolding slot_of is_in any
+unfolding slot_of is_in
 place_bit x k (Reg r) l = bit_of_or x 0 k ∙ rw (bit_zero k)
 place_bit x k (Slot s) l =
     let e : s.0 % 64 ≡ s.0 = omega (arith, l s.0 (inl refl)) in
@@ -59,24 +59,6 @@ added_at l at p j k h low =
 
 -- ---- what the code does
 
-pub added_is : (l : List ℕ) (at : ℕ) (p : Place) {x w : ℕ} {l' : List ℕ} → x ≡ get_or l at 0 → w ≡ place_word p → l' ≡ set l at (bit_or x w) → l' ≡ added l at p
-unfolding added
-added_is l at p q e f = f ∙ rw (q, e)
-
-module _ (t places l : List ℕ) (n : ℕ) {row : List ℕ} {a k : ℕ} (r : row ≡ kind_row t 10 n) (qa : a ≡ get_or row 1 0) (qk : k ≡ get_or row 2 0) where
-  pub touch_use : {m : ℕ} {p : Place} {l' : List ℕ} → k ≡ use_word → m ≡ get_or places n 0 → p ≡ place_of m → l' ≡ added l (a * 2 + 1) p → l' ≡ touch_by t places l n
-  unfolding touch_by
-  touch_use y u z e = rw (← r, ← qa, ← qk, eq-eqb k use_word y, ← u, ← z) e
-
-  pub touch_def : {c : Bool} {m : ℕ} {p : Place} {l' : List ℕ} → (k ≡ use_word → ⊥) → c ≡ (eqb k def_word || eqb k early_word) → c ≡ true → m ≡ get_or row 5 0 → p ≡ place_of m → l' ≡ added l (a * 2) p
-      → l' ≡ touch_by t places l n
-  unfolding touch_by
-  touch_def y f c u z e = rw (← r, ← qa, ← qk, ne_eqb k use_word y, ← f, c, ← u, ← z) e
-
-  pub touch_none : {c : Bool} → (k ≡ use_word → ⊥) → c ≡ (eqb k def_word || eqb k early_word) → c ≡ false → l ≡ touch_by t places l n
-  unfolding touch_by
-  touch_none y f c = rw (← r, ← qk, ne_eqb k use_word y, ← f, c)
-
 module _ (t places l : List ℕ) where
   pub touched_first : l ≡ touched_to t places l 0
   unfolding run from
@@ -86,9 +68,6 @@ module _ (t places l : List ℕ) where
   touched_more m n q e =
       let z : 0 + n ≡ n = omega arith in
       e ∙ ap (λ (x : List ℕ). touch_by t places x n) q ∙ sym (ap (touched_to t places l) (add-one n) ∙ run_more (touch_by t places) l 0 n ∙ ap (touch_by t places (touched_to t places l n)) z)
-
-  pub touched_last : (n rows : ℕ) {m : List ℕ} → m ≡ touched_to t places l n → n ≤ rows → rows ≤ n → rows ≡ count_in t 10 → m ≡ touched_to t places l (count_in t 10)
-  touched_last n rows q a b e = let z : n ≡ count_in t 10 = omega arith in q ∙ ap (touched_to t places l) z
 
 -- ---- what the words have
 
@@ -113,7 +92,7 @@ module _ (t places : List ℕ) where
     no_def e = let q : kind ≡ use_word = eqb-true kind use_word e in rw q
 
     cell_step : (j k : ℕ) → bit (get_or (touch_by t places l n) j 0) k ≡ (bit (get_or l j 0) k || ((eqb (at n * 2 + 1) j && is_in k (uses_at t places n)) || (eqb (at n * 2) j && is_in k (defs_at t n))))
-    unfolding touch_by is_in any
+    unfolding touch_by is_in
     cell_step j k =
         by_bool (eqb kind use_word)
         (λ e.
@@ -187,7 +166,7 @@ module _ (t places : List ℕ) where
     has_use n = eqb (at n) i && is_in k (uses_at t places n)
 
     pub defs_told : (m : ℕ) → ((n : ℕ) → n < m → Fine n) → bit (get_or (first m) (i * 2) 0) k ≡ any has_def (from 0 m)
-    unfolding run from any
+    unfolding run from
     defs_told zero f = rw (zeros 1024 (i * 2)) (bit_zero k)
     defs_told (suc m) f =
         let z : 0 + m ≡ m = omega arith in
@@ -196,7 +175,7 @@ module _ (t places : List ℕ) where
         ∙ ap (λ (b : Bool). b || has_def m) (defs_told m (λ n u. f n (omega arith))) ∙ sym (any_more has_def 0 m ∙ ap (λ (j : ℕ). any has_def (from 0 m) || has_def j) z)
 
     pub uses_told : (m : ℕ) → ((n : ℕ) → n < m → Fine n) → bit (get_or (first m) (i * 2 + 1) 0) k ≡ any has_use (from 0 m)
-    unfolding run from any
+    unfolding run from
     uses_told zero f = rw (zeros 1024 (i * 2 + 1)) (bit_zero k)
     uses_told (suc m) f =
         let z : 0 + m ≡ m = omega arith in

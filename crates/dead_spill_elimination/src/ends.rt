@@ -1,5 +1,5 @@
 // The slots wanted at each block's end, by going back over the blocks until none waits. What is wanted is a word for each block: there are 64 slots.
-ghost use Rattle.std.specs.Prelude.{◌≡◌, ◌↔◌, true, ℕ, ◌≤◌, ◌<◌, length, get_or, List};
+ghost use Rattle.std.specs.Prelude.{◌≡◌, ◌↔◌, true, ℕ, ◌+◌, ◌≤◌, ◌<◌, length, get_or, List, MatchOption};
 ghost use Rattle.laws.specs.Digits.{bit};
 ghost use Rattle.rules.specs.Function.{Func};
 ghost use Rattle.run.specs.Swept.{WantedAtEnd};
@@ -8,16 +8,17 @@ ghost use Rattle.dead_spill_elimination.specs.Worklist.{State, give, spread, Hig
 
 use crate::wanted::before_block;
 use bits::sets::NumberSet;
-use bits::tables::{read_u64, store_u8, store_u64};
+use bits::tables::{read, store};
 use entity::numbers::Block;
 use entity::sets::SlotSet;
 use graph::preds;
 
+// Stays: words and flags are lent side by side in fixed memory; the definition `State` has the two lists.
 // The set of a word.
 pub fn slots_of(w: u64) -> SlotSet
     ensures { (A : List ℕ) → Word w A → Same result.0 A }
 {
-    SlotSet(NumberSet {
+    SlotSet::of(NumberSet {
         words: [w, 0, 0, 0],
     })
 }
@@ -30,18 +31,11 @@ pub fn word_of(s: SlotSet) -> u64
     n.words[0]
 }
 
-// One more than the highest block that waits, or 0.
-fn highest(wait: &[u8]) -> usize
-    ensures { Highest wait.now result }
+// The highest block that waits.
+fn highest(wait: &[u8]) -> Option<usize>
+    ensures { MatchOption result (Highest wait.now 0) (λ b. Highest wait.now (b + 1)) }
 {
-    let mut i = wait.len();
-    while 0 < i {
-        if wait[i - 1] != 0 {
-            return i;
-        }
-        i -= 1;
-    }
-    0
+    wait.iter().rposition(|w| *w != 0)
 }
 
 // A block's end wants the slots of v too; if that is more than before, the block waits.
@@ -49,23 +43,21 @@ fn hand_to(p: u32, v: u64, ends: &mut [u64], wait: &mut [u8])
     ensures { record { live = ends.new; wait = wait.new } ≡ give v (record { live = ends.old; wait = wait.old }) p }
 {
     let at = p as usize;
-    let old = read_u64(ends, at);
+    let old = read(ends, at, 0);
     let new = old | v;
     if new == old {
         return;
     }
-    store_u64(ends, at, new);
-    store_u8(wait, at, 1);
+    store(ends, at, new);
+    store(wait, at, 1);
 }
 
 // What is wanted at a block's start is wanted at its predecessors' ends.
 fn hand_back(ps: &[u32], v: u64, ends: &mut [u64], wait: &mut [u8])
     ensures { record { live = ends.new; wait = wait.new } ≡ spread ps.now v (record { live = ends.old; wait = wait.old }) }
 {
-    let mut i: usize = 0;
-    while i < ps.len() {
-        hand_to(ps[i], v, ends, wait);
-        i += 1;
+    for p in ps {
+        hand_to(*p, v, ends, wait);
     }
 }
 
@@ -74,8 +66,8 @@ fn turn(t: &[u32], edits: &[u32], touched: &[u64], b: u32, ends: &mut [u64], wai
     ensures { Turned t.now edits.now touched.now b (record { live = ends.old; wait = wait.old }) (record { live = ends.new; wait = wait.new }) }
 {
     let at = b as usize;
-    store_u8(wait, at, 0);
-    let end = slots_of(read_u64(ends, at));
+    store(wait, at, 0);
+    let end = slots_of(read(ends, at, 0));
     let start = before_block(t, edits, touched, Block(b), end);
     hand_back(preds(t, Block(b)), word_of(start), ends, wait);
 }
@@ -88,11 +80,7 @@ pub fn settle(t: &[u32], edits: &[u32], touched: &[u64], ends: &mut [u64], wait:
     requires all { (b : ℕ) → b < length wait.old → get_or wait.old b 0 ≡ 0 → ⊥ }
     ensures { (f : Func) → Facts t.now edits.now touched.now f (length wait.old) → (b s : ℕ) → (bit (get_or ends.new b 0) s ≡ true) ↔ WantedAtEnd f b s }
 {
-    loop {
-        let h = highest(wait);
-        if h == 0 {
-            return;
-        }
-        turn(t, edits, touched, (h - 1) as u32, ends, wait);
+    while let Some(b) = highest(wait) {
+        turn(t, edits, touched, b as u32, ends, wait);
     }
 }

@@ -2,7 +2,7 @@
 // struck are marked; the marks are applied by crate `marks`.
 ghost use Rattle.std.specs.Prelude.{◌≡◌, List, [], ◌∷◌, ◌++◌, map, ℕ, ◌≤◌, ◌<◌, length, get_or, replicate};
 ghost use Rattle.bits.specs.declared.sets.NumberSet.{NumberSet};
-ghost use Rattle.entity.specs.Limits.{block_limit, edit_limit};
+ghost use Rattle.entity.specs.Limits.{block_limit};
 ghost use Rattle.rules.specs.Sheet.{block_count, insts_of};
 ghost use Rattle.rules.specs.Forward.{edits_at};
 ghost use Rattle.rules.specs.Function.{Item, row, ins, items, In};
@@ -19,7 +19,7 @@ ghost use Rattle.table.specs.Sheet.{sheet_in};
 use crate::ends::{settle, slots_of};
 use crate::touched::{LENGTH, touch_all};
 use crate::wanted::{before_edit, before_inst, is_dead};
-use bits::tables::{read_u8, store_u8};
+use bits::tables::{read, store};
 use entity::forms::Edit;
 use entity::numbers::{Block, EditRow, Inst};
 use entity::sets::SlotSet;
@@ -36,16 +36,9 @@ fn count_struck(counts: &mut [u32], e: Edit)
     ensures { Few counts.old → counts.new ≡ struck counts.old (e, Edit.Nothing) }
 {
     match e {
-        Edit::Move {
-            to: _,
-            from: _,
-            value: _,
-        } => tally(counts, Count::DEAD_SPILL),
-        Edit::Remat { to: _, value: _ } => tally(counts, Count::DEAD_REMAT),
-        Edit::Espill { to: _, from: _ } => {}
-        Edit::Ereload { to: _, from: _ } => {}
-        Edit::Misplaced { to: _, from: _ } => {}
-        Edit::Nothing => {}
+        Edit::Move { .. } => tally(counts, Count::DEAD_SPILL),
+        Edit::Remat { .. } => tally(counts, Count::DEAD_REMAT),
+        _ => {}
     }
 }
 
@@ -53,7 +46,7 @@ fn count_struck(counts: &mut [u32], e: Edit)
 fn unstruck(edits: &[u32], marks: &[u8], n: EditRow) -> Edit
     ensures { result ≡ edit_in (applied edits.now marks.now) n.0 }
 {
-    if read_u8(marks, n.0 as usize) != 0 {
+    if read(marks, n.0 as usize, 0) != 0 {
         return Edit::Nothing;
     }
     read_edit(edits, n)
@@ -65,9 +58,8 @@ fn strike(edits: &[u32], marks: &mut [u8], counts: &mut [u32], n: EditRow, live:
 {
     let e = unstruck(edits, marks, n);
     if is_dead(e, live) {
-        store_u8(marks, n.0 as usize, 1);
+        store(marks, n.0 as usize, 1);
         count_struck(counts, e);
-        return before_edit(e, live);
     }
     before_edit(e, live)
 }
@@ -82,9 +74,7 @@ fn strike_edits(
     ensures { (w : Work) (l : List Item) → Rows w (numbers rows) l → Pos w l edits.now marks.old counts.old live.0
         → Pos w (map row (numbers rows) ++ l) edits.now marks.new counts.new result.0 }
 {
-    let mut n = rows.to;
-    while rows.from < n {
-        n -= 1;
+    for n in (rows.from..rows.to).rev() {
         live = strike(edits, marks, counts, EditRow(n), live);
     }
     live
@@ -123,9 +113,7 @@ fn strike_block(
         → (S : NumberSet) × Pos w (items w.sheet b.0) edits.now marks.new counts.new S }
 {
     let insts = insts_of(t, b);
-    let mut i = insts.to;
-    while insts.from < i {
-        i -= 1;
+    for i in (insts.from..insts.to).rev() {
         live = strike_inst(t, edits, touched, marks, counts, Inst(i), live);
     }
 }
@@ -143,34 +131,10 @@ fn strike_all(
     ensures { (h : All t.now touched.now edits.now marks.old counts.old ends.now)
         → Outcome h marks.new counts.new }
 {
-    let mut b: usize = 0;
-    while b < ends.len() {
-        let live = slots_of(ends[b]);
+    for (b, end) in ends.iter().enumerate() {
+        let live = slots_of(*end);
         strike_block(t, edits, touched, marks, counts, Block(b as u32), live);
-        b += 1;
     }
-}
-
-// How many blocks there are, or the limit if there are more.
-fn block_count(t: &[u32]) -> usize
-    ensures { (result ≤ block_limit) × (count_in t.now 6 ≤ block_limit → result ≡ count_in t.now 6) }
-{
-    let n = count(t, Kind::BLOCK);
-    if n < Block::LIMIT {
-        return n as usize;
-    }
-    BLOCKS
-}
-
-// How many edits there are, or the limit if there are more.
-fn edit_count(t: &[u32]) -> usize
-    ensures { (result ≤ edit_limit) × (count_in t.now 12 ≤ edit_limit → result ≡ count_in t.now 12) }
-{
-    let n = count(t, Kind::EDIT);
-    if n < EditRow::LIMIT {
-        return n as usize;
-    }
-    ROWS
 }
 
 // The sweep, with two words of slots for each instruction, a word of slots and a flag for each block and a mark for each edit. The core marks the edits that are dead; those that are marked are struck
@@ -209,8 +173,8 @@ pub fn sweep_edits(t: &[u32], edits: &mut [u32], places: &[u32], counts: &mut [u
     let mut ends = [0u64; BLOCKS];
     let mut wait = [1u8; BLOCKS];
     let mut marks = [0u8; ROWS];
-    let n = block_count(t);
-    let m = edit_count(t);
+    let n = count(t, Kind::BLOCK).min(Block::LIMIT) as usize;
+    let m = count(t, Kind::EDIT).min(EditRow::LIMIT) as usize;
     sweep_in(
         t,
         edits,

@@ -5,7 +5,7 @@ ghost use Rattle.rules.specs.Words.{def_word, early_word};
 ghost use Rattle.table.specs.Rows.{count_in};
 ghost use Rattle.dead_spill_elimination.specs.Touched.{place_word, added, touch_by, touched_to};
 
-use bits::tables::{read_u32, read_u64, store_u64};
+use bits::tables::{read, store};
 use entity::cells::Word;
 use entity::forms::Place;
 use entity::numbers::{Inst, OperandRow};
@@ -27,44 +27,40 @@ fn place_word(p: Place) -> u64
     }
 }
 
+#[tactic(auto, unfolding(crate::specs::Touched::added))]
 fn add(words: &mut [u64], at: usize, p: Place)
     ensures { words.new ≡ added words.old at p }
 {
-    store_u64(words, at, read_u64(words, at) | place_word(p));
+    store(words, at, read(words, at, 0) | place_word(p));
 }
 
 fn defines(k: u32) -> bool
     ensures { result ≡ (eqb k def_word || eqb k early_word) }
 {
-    if k == Word::DEF {
-        return true;
-    }
-    k == Word::EARLY
+    k == Word::DEF || k == Word::EARLY
 }
 
 // The slot of operand row n, at its instruction.
+#[tactic(auto, unfolding(crate::specs::Touched::touch_by))]
 fn touch(t: &[u32], places: &[u32], n: OperandRow, words: &mut [u64])
     ensures { words.new ≡ touch_by t.now places.now words.old n.0 }
 {
     let row = row_of(t, Kind::OP, n.0);
-    let at = read_u32(row, 1) as usize * WIDTH;
-    let kind = read_u32(row, 2);
+    let at = read(row, 1, 0) as usize * WIDTH;
+    let kind = read(row, 2, 0);
     if kind == Word::USE {
-        add(words, at + 1, place_of(read_u32(places, n.0 as usize)));
+        add(words, at + 1, place_of(read(places, n.0 as usize, 0)));
         return;
     }
     if defines(kind) {
-        add(words, at, place_of(read_u32(row, 5)));
+        add(words, at, place_of(read(row, 5, 0)));
     }
 }
 
 pub fn touch_all(t: &[u32], places: &[u32], words: &mut [u64])
     ensures { words.new ≡ touched_to t.now places.now words.old (count_in t.now 10) }
 {
-    let rows = count(t, Kind::OP);
-    let mut n: u32 = 0;
-    while n < rows {
+    for n in 0..count(t, Kind::OP) {
         touch(t, places, OperandRow(n), words);
-        n += 1;
     }
 }

@@ -7,7 +7,7 @@ ghost use Rattle.dead_spill_elimination.specs.Slots.{Same, Low, LowReads, lacks,
 
 use crate::ends::{slots_of, word_of};
 use crate::touched::WIDTH;
-use bits::tables::read_u64;
+use bits::tables::read;
 use entity::forms::{Edit, Place};
 use entity::numbers::{Block, EditRow, Inst, SpillSlot};
 use entity::sets::SlotSet;
@@ -58,16 +58,8 @@ pub fn is_dead(e: Edit, live: SlotSet) -> bool
     ensures { result ≡ dead_in live.0 e }
 {
     match e {
-        Edit::Move {
-            to,
-            from: _,
-            value: _,
-        } => unwanted(live, to),
-        Edit::Remat { to, value: _ } => unwanted(live, to),
-        Edit::Espill { to: _, from: _ } => false,
-        Edit::Ereload { to: _, from: _ } => false,
-        Edit::Misplaced { to: _, from: _ } => false,
-        Edit::Nothing => false,
+        Edit::Move { to, .. } | Edit::Remat { to, .. } => unwanted(live, to),
+        _ => false,
     }
 }
 
@@ -76,15 +68,20 @@ pub fn before_edit(e: Edit, live: SlotSet) -> SlotSet
     ensures { (A : List ℕ) → LowReads (edit e) → Same live.0 A → Same result.0 (wanted_before (edit e) A) }
 {
     match e {
-        Edit::Move { to, from, value: _ } => match to {
-            Place::Slot(d) => moved(live, d, from),
-            Place::Reg(_) => with_place(live, from),
-        },
-        Edit::Remat { to, value: _ } => without_place(live, to),
-        Edit::Espill { to, from: _ } => live.remove(to),
-        Edit::Ereload { to: _, from } => live.insert(from),
-        Edit::Misplaced { to: _, from: _ } => live,
-        Edit::Nothing => live,
+        Edit::Move {
+            to: Place::Slot(to),
+            from,
+            ..
+        } => moved(live, to, from),
+        Edit::Move {
+            to: Place::Reg(_),
+            from,
+            ..
+        } => with_place(live, from),
+        Edit::Remat { to, .. } => without_place(live, to),
+        Edit::Espill { to, .. } => live.remove(to),
+        Edit::Ereload { from, .. } => live.insert(from),
+        Edit::Misplaced { .. } | Edit::Nothing => live,
     }
 }
 
@@ -93,17 +90,15 @@ pub fn before_inst(touched: &[u64], i: Inst, live: SlotSet) -> SlotSet
     ensures { (A : List ℕ) → Same live.0 A → Same result.0 (inst_back touched.now i.0 A) }
 {
     let at = i.0 as usize * WIDTH;
-    let defs = read_u64(touched, at);
-    let uses = read_u64(touched, at + 1);
+    let defs = read(touched, at, 0);
+    let uses = read(touched, at + 1, 0);
     slots_of((word_of(live) & !defs) | uses)
 }
 
 fn before_edits(edits: &[u32], rows: Range, mut live: SlotSet) -> SlotSet
     ensures { (A : List ℕ) → ((j : ℕ) → In j (numbers rows) → LowReads (edit (edit_in edits.now j))) → Same live.0 A → Same result.0 (edits_back edits.now (numbers rows) A) }
 {
-    let mut n = rows.to;
-    while rows.from < n {
-        n -= 1;
+    for n in (rows.from..rows.to).rev() {
         live = before_edit(read_edit(edits, EditRow(n)), live);
     }
     live
@@ -121,9 +116,7 @@ pub fn before_block(
         → Same result.0 (block_back t.now edits.now touched.now b.0 A) }
 {
     let insts = insts_of(t, b);
-    let mut i = insts.to;
-    while insts.from < i {
-        i -= 1;
+    for i in (insts.from..insts.to).rev() {
         live = before_edits(
             edits,
             edit_rows(t, Inst(i)),

@@ -8,7 +8,7 @@ use native.Mathlib.Omega.{arith}
 use lib.Dec.{eqb, ltb}
 use lib.ListN.{length, get_or, drop, drop_of_length-le}
 use lib.Seq.{drop-cons}
-use borrow.Author.Tests.{ltb-true}
+use borrow.Author.Tests.{eqb-true, ltb-true}
 use Rattle.laws.specs.Fold.{run}
 use Rattle.laws.specs.Lists.{all, keep, is_in}
 use Rattle.laws.proofs.Cases.{by_bool}
@@ -22,10 +22,8 @@ use Rattle.rules.specs.Forward.{clobber}
 use Rattle.table.specs.Sheet.{sheet_in}
 use Rattle.table.specs.Index.{Ready}
 use Rattle.table.proofs.Loops.{and_left, and_right, never}
-use Rattle.record.specs.Flat.{record_in, Long, Becomes}
-use Rattle.record.proofs.Changes.{becomes_same, becomes_as}
 use Rattle.definitions.specs.Definitions.{own_units, Only}
-use Rattle.definitions.proofs.Loops.{Rest, rest_next, rest_skip}
+use Rattle.definitions.proofs.Loops.{rest_next}
 
 -- ---- one by one
 
@@ -45,18 +43,18 @@ module _ (p : ℕ → Bool) (us : List ℕ) (k : ℕ) where
 -- ---- the set says what the list says, of units that are within the limit
 
 keep_on : (p q : ℕ → Bool) → ((u : ℕ) → u < unit_limit → p u ≡ q u) → (us : List ℕ) → units_within us ≡ true → keep p us ≡ keep q us
-unfolding keep units_within all
+unfolding keep units_within
 keep_on p q h [] e = refl
 keep_on p q h (u ∷ us) e =
     rw (h u (ltb-true u unit_limit (and_left (ltb u unit_limit) (units_within us) e)), keep_on p q h us (and_right (ltb u unit_limit) (units_within us) e))
 
 within_append : (xs ys : List ℕ) → units_within xs ≡ true → units_within ys ≡ true → units_within (xs ++ ys) ≡ true
-unfolding units_within all
+unfolding units_within
 within_append [] ys p q = q
 within_append (x ∷ xs) ys p q = rw (and_left (ltb x unit_limit) (units_within xs) p) (within_append xs ys (and_right (ltb x unit_limit) (units_within xs) p) q)
 
 within_flat : (p : ListRow → Bool) (l : List ListRow) → all (λ c. units_within c.list) l ≡ true → units_within (flat_map (λ r. r.list) (keep p l)) ≡ true
-unfolding all keep flat_map units_within
+unfolding keep flat_map units_within
 within_flat p [] e = refl
 within_flat p (x ∷ l) e =
     let z = within_flat p l (and_right (units_within x.list) (all (λ c. units_within c.list) l) e) in
@@ -72,27 +70,25 @@ no_length : (l : List ℕ) → length l ≡ 0 → l ≡ []
 no_length [] e = refl
 no_length (x ∷ l) e = absurd (omega arith)
 
-module _ (t : List ℕ) (i : ℕ) {us : List ℕ} (e : Ready t → us ≡ clobbers_of (sheet_in t) i) {a : List ℕ} where
-  pub clobbers_none : length us ≡ 0 → Ready t → Long a → Becomes a a (clobber (sheet_in t) i (record_in a))
+module _ (t : List ℕ) (i : ℕ) {us : List ℕ} (g : Ready t) (e : us ≡ clobbers_of (sheet_in t) i) (s : Record) where
+  pub clobbers_none : {x : Bool} → x ≡ eqb (length us) 0 → x ≡ true → s ≡ clobber (sheet_in t) i s
   unfolding clobber run keep
-  clobbers_none z g l = let q : clobbers_of (sheet_in t) i ≡ [] = sym (e g) ∙ no_length us z in rw q (becomes_same a)
+  clobbers_none p z = let q : clobbers_of (sheet_in t) i ≡ [] = sym e ∙ no_length us (eqb-true (length us) 0 (sym p ∙ z)) in rw q
 
-  pub clobbered : {b : List ℕ} {s : NumberSet} → (Ready t → Only s (own_units (sheet_in t) i)) → (Long a → Becomes a b (run forget_unit (record_in a) (keep (λ u. not (has s u)) us)))
-      → Ready t → Long a → Becomes a b (clobber (sheet_in t) i (record_in a))
+  pub clobbered : {s' : Record} {own : NumberSet} → Only own (own_units (sheet_in t) i) → s' ≡ run forget_unit s (keep (λ u. not (has own u)) us) → s' ≡ clobber (sheet_in t) i s
   unfolding clobber
-  clobbered {s = s} o p g l =
-      becomes_as (p l)
-      (ap (λ (vs : List ℕ). run forget_unit (record_in a) (keep (λ u. not (has s u)) vs)) (e g)
-      ∙ ap (run forget_unit (record_in a))
-      (keep_on (λ u. not (has s u)) (λ u. not (is_in u (own_units (sheet_in t) i))) (λ u h. ap not ((o g).each u (omega arith))) (clobbers_of (sheet_in t) i) (clobbers_within (sheet_in t) i g.limits)))
+  clobbered {own = own} o p =
+      p
+      ∙ ap (λ (vs : List ℕ). run forget_unit s (keep (λ u. not (has own u)) vs)) e
+      ∙ ap (run forget_unit s)
+      (keep_on (λ u. not (has own u)) (λ u. not (is_in u (own_units (sheet_in t) i))) (λ u h. ap not (o.each u (omega arith))) (clobbers_of (sheet_in t) i) (clobbers_within (sheet_in t) i g.limits))
 
 -- ---- a turn: the unit is forgotten where the set does not have it
 
-module _ (own : NumberSet) (us : List ℕ) (k : ℕ) {rec a : List ℕ} {s : Record} (h : k < length us) {x : Bool} (e : x ≡ has own (get_or us k 0))
-    (inv : Long rec → Rest forget_unit (keep (λ u. not (has own u)) (drop k us)) rec a s) where
-  pub turn_forgets : not x ≡ true → {b b' : List ℕ} → (Long a → Becomes a b (forget_unit (record_in a) (get_or us k 0))) → b' ≡ b
-      → Long rec → Rest forget_unit (keep (λ u. not (has own u)) (drop (k + 1) us)) rec b' s
-  turn_forgets n p q l = rw q (rest_next forget_unit (keep_here (λ u. not (has own u)) us k h (ap not (sym e) ∙ n)) inv p l)
+module _ (own : NumberSet) (us : List ℕ) (k : ℕ) (s : Record) {s' e : Record} (h : k < length us) {x : Bool} (p : x ≡ has own (get_or us k 0))
+    (inv : run forget_unit s (keep (λ u. not (has own u)) (drop k us)) ≡ e) where
+  pub turn_forgets : not x ≡ true → s' ≡ forget_unit s (get_or us k 0) → run forget_unit s' (keep (λ u. not (has own u)) (drop (k + 1) us)) ≡ e
+  turn_forgets n q = rest_next forget_unit (keep_here (λ u. not (has own u)) us k h (ap not (sym p) ∙ n)) inv q
 
-  pub turn_keeps : not x ≡ false → {b' : List ℕ} → b' ≡ a → Long rec → Rest forget_unit (keep (λ u. not (has own u)) (drop (k + 1) us)) rec b' s
-  turn_keeps n q l = rw q (rest_skip forget_unit (keep_over (λ u. not (has own u)) us k h (ap not (sym e) ∙ n)) inv l)
+  pub turn_keeps : not x ≡ false → s' ≡ s → run forget_unit s' (keep (λ u. not (has own u)) (drop (k + 1) us)) ≡ e
+  turn_keeps n q = rw (q, ← keep_over (λ u. not (has own u)) us k h (ap not (sym p) ∙ n)) inv

@@ -6,6 +6,7 @@ use mathlib.Core.List.{List, [], ◌∷◌, flat_map, zip_with}
 use mathlib.Core.Option.{Option, get_or}
 use Prim.Native.Nat.{ℕ}
 use Rattle.laws.specs.Fold.{run}
+use Rattle.std.proofs.Common.{◌⊎◌, inl, inr}
 use Rattle.laws.proofs.Cases.{by_bool}
 use Rattle.entity.specs.declared.forms.Place.{Place}
 use Rattle.entity.specs.declared.forms.Place.TheVariants.{Reg, Slot}
@@ -23,10 +24,9 @@ use Rattle.rules.specs.Forward.{group_regs, members, all_defs, define_all}
 use Rattle.table.specs.View.{operand_of}
 use Rattle.table.specs.declared.view.Operand.{Operand}
 use Rattle.operands.specs.Operands.{as_row, class_found}
-use Rattle.operands.specs.declared.FoundClass.{FoundClass}
+use Rattle.std.specs.Prelude.{Some, None}
+use Rattle.std.specs.Prelude as Code
 use Rattle.operands.proofs.Finding.{class_lost, class_found_lem}
-use Rattle.record.specs.Flat.{record_in, Long, Becomes}
-use Rattle.record.proofs.Changes.{becomes_same, becomes_as}
 use Rattle.definitions.specs.Definitions.{taken, takes_early, takes_other, at_reg}
 use Rattle.definitions.specs.declared.Pass.{Pass}
 use Rattle.definitions.specs.declared.Pass.TheVariants.{Early, Other, All}
@@ -43,61 +43,48 @@ taken_by sh o Early = by_bool (is_early o.kind) (λ q. rw q) (λ q. rw q)
 taken_by sh o Other = by_bool (is_early o.kind) (λ q. rw q) (λ q. rw q)
 taken_by sh o All = by_bool (is_early o.kind) (λ q. rw q) (λ q. rw q)
 
-none_or_none : (b : Bool) → ◌≡◌ {A = Defs} (cond b [] []) []
-none_or_none true = refl
-none_or_none false = refl
+-- whether a pass takes what an operand defines, by the kind of its row
+module _ (sh : Sheet) (o : OpRow) (pass : Pass) {k : OperandKind} {early takes : Bool} (e : k ≡ o.kind) (p : early ≡ is_early k) (q : takes ≡ cond early (takes_early pass) (takes_other pass)) where
+  taken_if : taken sh pass o ≡ cond takes (all_defs sh o) []
+  taken_if = taken_by sh o pass ∙ rw (q, p, e)
 
-module _ (sh : Sheet) (o : OpRow) {k : OperandKind} (e : k ≡ o.kind) (pass : Pass) where
-  pub taken_def : (v : Value) → k ≡ Def v → taken sh pass o ≡ cond (takes_other pass) ((v.0, o.place) ∷ []) []
-  unfolding is_early all_defs
-  taken_def v q = taken_by sh o pass ∙ rw (sym e ∙ q)
+  pub takes_none : takes ≡ false → taken sh pass o ≡ []
+  takes_none z = taken_if ∙ rw z
 
-  pub taken_early : (v : Value) → k ≡ EarlyDef v → taken sh pass o ≡ cond (takes_early pass) ((v.0, o.place) ∷ []) []
-  unfolding is_early all_defs
-  taken_early v q = taken_by sh o pass ∙ rw (sym e ∙ q)
+  pub takes_all : takes ≡ true → taken sh pass o ≡ all_defs sh o
+  takes_all z = taken_if ∙ rw z
 
-  pub taken_defs : (g : ValueGroup) → k ≡ DefGroup g → taken sh pass o ≡ cond (takes_other pass) (members sh o g.0) []
-  unfolding is_early all_defs
-  taken_defs g q = taken_by sh o pass ∙ rw (sym e ∙ q)
+-- and what it defines, by its kind
+none_by : (sh : Sheet) (o : OpRow) (k : OperandKind) → o.kind ≡ k → ((v : Value) → k ≡ Def v → ⊥) → ((v : Value) → k ≡ EarlyDef v → ⊥) → ((g : ValueGroup) → k ≡ DefGroup g → ⊥) → ((g : ValueGroup) → k ≡ EarlyDefGroup g → ⊥) → all_defs sh o ≡ []
+unfolding all_defs
+none_by sh o (Def v) e a b c d = absurd (a v refl)
+none_by sh o (EarlyDef v) e a b c d = absurd (b v refl)
+none_by sh o (DefGroup g) e a b c d = absurd (c g refl)
+none_by sh o (EarlyDefGroup g) e a b c d = absurd (d g refl)
+none_by sh o (Use v) e a b c d = rw e
+none_by sh o (UseGroup g) e a b c d = rw e
+none_by sh o NonAllocatable e a b c d = rw e
 
-  pub taken_earlies : (g : ValueGroup) → k ≡ EarlyDefGroup g → taken sh pass o ≡ cond (takes_early pass) (members sh o g.0) []
-  unfolding is_early all_defs
-  taken_earlies g q = taken_by sh o pass ∙ rw (sym e ∙ q)
+module _ (sh : Sheet) (o : OpRow) {k : OperandKind} (e : k ≡ o.kind) where
+  pub one_def : {v : Value} → (k ≡ Def v) ⊎ (k ≡ EarlyDef v) → all_defs sh o ≡ (v.0, o.place) ∷ []
+  unfolding all_defs
+  one_def (inl q) = rw (sym e ∙ q)
+  one_def (inr q) = rw (sym e ∙ q)
 
-  pub taken_use : (v : Value) → k ≡ Use v → taken sh pass o ≡ []
-  unfolding is_early all_defs
-  taken_use v q = taken_by sh o pass ∙ rw (sym e ∙ q) (none_or_none (takes_other pass))
+  pub group_defs : {g : ValueGroup} → (k ≡ DefGroup g) ⊎ (k ≡ EarlyDefGroup g) → all_defs sh o ≡ members sh o g.0
+  unfolding all_defs
+  group_defs (inl q) = rw (sym e ∙ q)
+  group_defs (inr q) = rw (sym e ∙ q)
 
-  pub taken_uses : (g : ValueGroup) → k ≡ UseGroup g → taken sh pass o ≡ []
-  unfolding is_early all_defs
-  taken_uses g q = taken_by sh o pass ∙ rw (sym e ∙ q) (none_or_none (takes_other pass))
-
-  pub taken_fixed : k ≡ NonAllocatable → taken sh pass o ≡ []
-  unfolding is_early all_defs
-  taken_fixed q = taken_by sh o pass ∙ rw (sym e ∙ q) (none_or_none (takes_other pass))
+  pub no_defs : ((v : Value) → k ≡ Def v → ⊥) → ((v : Value) → k ≡ EarlyDef v → ⊥) → ((g : ValueGroup) → k ≡ DefGroup g → ⊥) → ((g : ValueGroup) → k ≡ EarlyDefGroup g → ⊥) → all_defs sh o ≡ []
+  no_defs = none_by sh o k (sym e)
 
 -- ---- the record, by what is taken
 
-module _ (sh : Sheet) (b : ℕ) {a : List ℕ} {ds : Defs} where
-  pub defines_none : ds ≡ [] → {H : Type 0} → H → Long a → Becomes a a (define_all sh b ds (record_in a))
-  unfolding define_all run
-  defines_none e g l = rw e (becomes_same a)
-
+module _ (sh : Sheet) (b : ℕ) (s : Record) {ds : Defs} where
   -- the same definitions by another name
-  pub defines_as : {es : Defs} {c : List ℕ} {H : Type 0} → (H → es ≡ ds) → (Long a → Becomes a c (define_all sh b es (record_in a))) → H → Long a → Becomes a c (define_all sh b ds (record_in a))
-  defines_as e p g l = becomes_as (p l) (ap (λ (y : Defs). define_all sh b y (record_in a)) (e g))
-
-  module _ (es : Defs) {x takes : Bool} (q : x ≡ takes) (e : ds ≡ cond takes es []) where
-    pub defines_not : x ≡ false → {H : Type 0} → H → Long a → Becomes a a (define_all sh b ds (record_in a))
-    defines_not z = defines_none (e ∙ rw (sym q ∙ z))
-
-    pub defines_group : {c : List ℕ} {ms : Defs} {H : Type 0} → x ≡ true → ms ≡ es → (H → Long a → Becomes a c (define_all sh b ms (record_in a))) → H → Long a → Becomes a c (define_all sh b ds (record_in a))
-    defines_group z m p g l = becomes_as (p g l) (ap (λ (y : Defs). define_all sh b y (record_in a)) (m ∙ sym (e ∙ rw (sym q ∙ z))))
-
-  pub defines_one_lem : (v : ℕ) (p : Place) {x takes : Bool} → x ≡ takes → ds ≡ cond takes ((v, p) ∷ []) [] → {p' : Place} {c : List ℕ} {H : Type 0} → x ≡ true → p' ≡ p
-      → (Long a → Becomes a c (define sh b v p' (record_in a))) → H → Long a → Becomes a c (define_all sh b ds (record_in a))
-  unfolding define_all run
-  defines_one_lem v p q e {H = H} z m f = defines_group ((v, p) ∷ []) q e {H = H} z (ap (λ (y : Place). (v, y) ∷ []) m) (λ _. f)
+  pub defines_as : {s' : Record} {es : Defs} → es ≡ ds → s' ≡ define_all sh b es s → s' ≡ define_all sh b ds s
+  defines_as e p = rw (← e) p
 
 -- all operands of an instruction, one after the other
 pub defines_all : (sh : Sheet) (b : ℕ) (h : OpRow → Defs) (s : Record) (l : List OpRow) → run (λ u o. define_all sh b (h o) u) s l ≡ define_all sh b (flat_map h l) s
@@ -107,11 +94,11 @@ defines_all sh b h s l = run_flat (λ t d. define sh b d.0 d.1 t) h s l
 -- ---- the members of a group
 
 -- the class of an operand, or the first
-module _ {H : Type 0} (x : Option ℕ) {f : FoundClass} (e : H → f ≡ class_found x) where
-  pub class_there : (c : RegClass) → f ≡ FoundClass.At c → H → c.0 ≡ get_or x 0
+module _ {H : Type 0} (x : Option ℕ) {f : Code.Option RegClass} (e : H → f ≡ class_found x) where
+  pub class_there : (c : RegClass) → f ≡ Some c → H → c.0 ≡ get_or x 0
   class_there c q g = rw (class_found_lem x c (sym q ∙ e g))
 
-  pub class_first : f ≡ FoundClass.Nothing → H → 0 ≡ get_or x 0
+  pub class_first : f ≡ None → H → 0 ≡ get_or x 0
   class_first q g = rw (class_lost x (sym q ∙ e g))
 
 -- the group that begins with r

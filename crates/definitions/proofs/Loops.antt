@@ -2,20 +2,18 @@
 use mathlib.Core.Path.{◌≡◌, refl, sym, ap, ◌∙◌}
 use mathlib.Core.Bool.{Bool, false, ◌||◌, or_assoc, or-false}
 use mathlib.Core.List.{List, [], ◌∷◌, ◌++◌, flat_map, zip_with}
-use Prim.Native.Nat.{ℕ, ◌+◌, ◌≤◌, ◌<◌}
-use native.Mathlib.Numerals.{add-one}
-use native.Mathlib.Omega.{arith}
+use Prim.Native.Nat.{ℕ, ◌<◌}
 use lib.Dec.{eqb}
-use lib.ListN.{length, get_or, drop, drop_of_length-le}
-use lib.Seq.{drop-cons}
+use Rattle.std.specs.Iterator.Adapters.{zip_first, zip_second}
+use Rattle.std.proofs.Common.{◌⊎◌, inl, inr, Iter}
+use Rattle.std.specs.declared.iter.Zip.{Zip}
+use Rattle.std.specs.Slice.Iter.{iter_rest}
 use Rattle.laws.specs.Fold.{run}
-use Rattle.laws.specs.Lists.{any, is_in}
+use Rattle.laws.specs.Lists.{is_in}
 use Rattle.laws.proofs.Lists.{is_append}
 use Rattle.bits.specs.Sets.{has, set_of, set_limit}
 use Rattle.bits.specs.declared.sets.NumberSet.{NumberSet}
 use Rattle.bits.proofs.Members.{has_set_of}
-use Rattle.rules.specs.Record.{Record}
-use Rattle.record.specs.Flat.{record_in, Long, Becomes}
 use Rattle.definitions.specs.Definitions.{With, Only}
 
 -- ---- a run over a list of lists
@@ -37,53 +35,40 @@ unfolding zip_with
 zip_nil f [] = refl
 zip_nil f (v ∷ vs) = refl
 
-module _ {A : Type 0} (f : ℕ → ℕ → A) (vs rs : List ℕ) (k : ℕ) where
-  pub zip_here : k < length vs → k < length rs → zip_with f (drop k vs) (drop k rs) ≡ f (get_or vs k 0) (get_or rs k 0) ∷ zip_with f (drop (k + 1) vs) (drop (k + 1) rs)
+module _ {A : Type 0} (f : ℕ → ℕ → A) {vs rs : List ℕ} where
+  -- what an iterator over both has left: at first, with one more pair, and at the end
+  pub zip_all : {it z : Zip (Iter ℕ) (Iter ℕ)} {i : Iter ℕ} → it ≡ z → zip_first z ≡ i → iter_rest i ≡ vs → iter_rest (zip_second z) ≡ rs
+      → zip_with f (iter_rest (zip_first it)) (iter_rest (zip_second it)) ≡ zip_with f vs rs
+  zip_all e p q r = rw (e, p, q, r)
+
+  pub zip_more : {v r : ℕ} {vs' rs' : List ℕ} → (vs ≡ v ∷ vs') × (rs ≡ r ∷ rs') → zip_with f vs rs ≡ f v r ∷ zip_with f vs' rs'
   unfolding zip_with
-  zip_here h m = rw (drop-cons vs k 0 h, drop-cons rs k 0 m, add-one k)
+  zip_more e = rw (e.0, e.1)
 
-  pub zip_first : length vs ≤ k → zip_with f (drop k vs) (drop k rs) ≡ []
+  pub zip_done : (vs ≡ []) ⊎ (rs ≡ []) → zip_with f vs rs ≡ []
   unfolding zip_with
-  zip_first h = rw (drop_of_length-le vs h)
+  zip_done (inl e) = rw e
+  zip_done (inr e) = rw e (zip_nil f vs)
 
-  pub zip_second : length rs ≤ k → zip_with f (drop k vs) (drop k rs) ≡ []
-  zip_second h = rw (drop_of_length-le rs h) (zip_nil f (drop k vs))
+-- ---- a run: what is left of the list gives s
 
--- ---- the record: what is left of the list gives s
+module _ {S A : Type 0} (f : S → A → S) {a s : S} {l : List A} where
+  pub rest_next : {b : S} {x : A} {l' : List A} → l ≡ x ∷ l' → run f a l ≡ s → b ≡ f a x → run f b l' ≡ s
+  unfolding run
+  rest_next {l' = l'} e p q = ap (λ (u : S). run f u l') q ∙ sym (ap (run f a) e) ∙ p
 
-pub record Rest {A : Type 0} (f : Record → A → Record) (l : List A) (rec rec' : List ℕ) (s : Record) : Type 0 where
-  pub long : length rec' ≡ length rec
-  pub same : run f (record_in rec') l ≡ s
-
-module _ {A : Type 0} (f : Record → A → Record) where
-  pub rest_start : (rec : List ℕ) {l l₀ : List A} → l ≡ l₀ → Rest f l rec rec (run f (record_in rec) l₀)
-  rest_start rec e = record { long = refl; same = ap (run f (record_in rec)) e }
-
-  module _ {rec : List ℕ} {s : Record} {a : List ℕ} {l : List A} where
-    pub rest_next : {b : List ℕ} {x : A} {l' : List A} → l ≡ x ∷ l' → (Long rec → Rest f l rec a s) → (Long a → Becomes a b (f (record_in a) x)) → Long rec → Rest f l' rec b s
-    unfolding run
-    rest_next {l' = l'} e p q lo =
-        let r = p lo in
-        let m : length a ≡ length rec = r.long in
-        let y = q (omega arith) in
-        record { long = y.long ∙ m; same = ap (λ (u : Record). run f u l') y.is ∙ sym (ap (run f (record_in a)) e) ∙ r.same }
-
-    -- a turn that leaves the record
-    pub rest_skip : {l' : List A} → l ≡ l' → (Long rec → Rest f l rec a s) → Long rec → Rest f l' rec a s
-    rest_skip e p lo = let r = p lo in record { long = r.long; same = sym (ap (run f (record_in a)) e) ∙ r.same }
-
-    pub rest_end : l ≡ [] → (Long rec → Rest f l rec a s) → Long rec → Becomes rec a s
-    unfolding run
-    rest_end e p lo = let r = p lo in record { long = r.long; is = sym (ap (run f (record_in a)) e) ∙ r.same }
+  pub rest_end : l ≡ [] → run f a l ≡ s → a ≡ s
+  unfolding run
+  rest_end e p = sym (ap (run f a) e) ∙ p
 
 -- ---- the set: what is left of the list, added, gives the set with all
 
 pub with_none : (s : NumberSet) → With s [] s
-unfolding is_in any
+unfolding is_in
 with_none s = record { each = λ k h. sym (or-false (has s k)) }
 
 pub with_one : {s s' : NumberSet} (u : ℕ) → s' ≡ set_of (λ k. has s k || eqb k u) → With s (u ∷ []) s'
-unfolding is_in any
+unfolding is_in
 with_one {s} u e = record { each = λ k h. rw (e, has_set_of (λ k. has s k || eqb k u) k h, or-false (eqb k u)) }
 
 -- the same units by another name
@@ -105,7 +90,7 @@ module _ {l all : List ℕ} {s₀ s : NumberSet} where
       }
 
   pub gather_end : l ≡ [] → Gathering l all s₀ s → With s₀ all s
-  unfolding is_in any
+  unfolding is_in
   gather_end e p = record { each = λ k h. sym (or-false (has s k)) ∙ sym (ap (λ (y : List ℕ). has s k || is_in k y) e) ∙ p.same k h }
 
 -- from nothing

@@ -1,4 +1,7 @@
 -- For `cleaned_in` of src/lib.rt, from the walk before the first block to the text of the answer: the forward rules, the sweep, the rows that stand in the cells. Assumes nothing.
+use Rattle.entity.specs.declared.forms.Refusal.{Refusal}
+use Rattle.std.specs.Prelude as Code
+use Rattle.std.specs.Prelude.{Ok, Err}
 use mathlib.Core.Path.{◌≡◌, refl, sym, ◌∙◌, ap₂}
 use mathlib.Core.Bool.{Bool, true, false}
 use mathlib.Core.List.{List, zip}
@@ -35,7 +38,6 @@ use Rattle.answer.specs.Rows.{Stands}
 use Rattle.moves.specs.Walks.{Ordered, Written, walk_most}
 use Rattle.drifthurdle.specs.Loading.{EditsLoaded, PlacesLoaded}
 use Rattle.drifthurdle.specs.Call.{Gives}
-use Rattle.drifthurdle.specs.declared.Outcome.{Outcome}
 use Rattle.drifthurdle.proofs.Loading.{started}
 
 module _ {t : List ℕ} (g : Ready t) (pass : first_refusal (checks (sheet_in t)) ≡ none) (level : Level) where
@@ -129,7 +131,7 @@ module _ {t : List ℕ} (g : Ready t) (pass : first_refusal (checks (sheet_in t)
   unfolding cleaned
   cleaned_swept swept q = rw (q, cleaned)
 
-  module _ {e p c : List ℕ} (out : List ℕ) {swept : Bool} {o : Outcome} {new : List ℕ}
+  module _ {e p c : List ℕ} (out : List ℕ) {swept : Bool} {o : Code.Result ℕ Refusal} {new : List ℕ}
       (F : (w : Walk) → Stands t e p c w → Gives (fitted (output sh w) (length out)) o out new) where
     pub gives_plain : swept ≡ false → Stands t e p c w → Gives (fitted (cleaned sh level swept) (length out)) o out new
     gives_plain q x = rw (cleaned_plain swept q) (F w x)

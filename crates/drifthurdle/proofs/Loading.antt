@@ -1,6 +1,6 @@
 -- For `load_edits` and `load_places` of src/lib.rt, the sheet's edits and places in cells: the loops that load them, and the walk that then stands there. Assumes nothing.
---     edits_first, edits_next      the loop over edit rows
---     places_first, places_next    that over operand rows
+--     edits_next                   one turn of the loop over edit rows
+--     places_next                  of that over operand rows
 --     storable                     an accepted sheet's edits can be loaded
 --     started                      and the walk before the first block stands in the cells
 use mathlib.Core.Path.{◌≡◌, refl, sym, ◌∙◌, ap}
@@ -42,16 +42,6 @@ use Rattle.drifthurdle.specs.Loading.{Storable, EditsLoaded, PlacesLoaded}
 
 -- ---- the loops
 
--- the edits before row n are loaded, of as many as `rows`
-pub record Edits (t edits₀ : List ℕ) (rows : ℕ) (edits : List ℕ) (n : ℕ) : Type 0 where
-  pub within : n ≤ rows
-  pub long : length edits ≡ length edits₀
-  pub loaded : ((j : ℕ) → j < count_in t 12 → Storable (edit_at_row t j)) → count_in t 12 * edit_width ≤ length edits₀ → EditsLoaded t edits n
-
-pub edits_first : (t edits : List ℕ) (rows : ℕ) → Edits t edits rows edits 0
-edits_first t edits rows =
-    record { within = omega arith; long = refl; loaded = λ s r. record { exact = λ j h. absurd (omega arith); are = λ j h. absurd (omega arith) } }
-
 module _ (cells : List ℕ) (n : ℕ) {e : Edit} (s : Storable e) (room : n * edit_width + 3 < length cells) where
   stored_exact : (j : ℕ) → j < n + 1 → ((j : ℕ) → j < n → EditCells cells j) → EditCells (with_edit cells n e) j
   stored_exact j h x = by_eq j n (λ q. rw q (cells_same cells n e room s.is_placed s.small s.value)) (λ q. cells_other cells n e j q (x j (omega arith)))
@@ -62,48 +52,19 @@ module _ (cells : List ℕ) (n : ℕ) {e : Edit} (s : Storable e) (room : n * ed
       (λ p. rw p (with_same cells n e room (read_back e s.is_placed s.small) ∙ q))
       (λ p. with_other cells n e j p ∙ x j (omega arith))
 
-pub edits_next : {t edits₀ cells cells' : List ℕ} {e : Edit} {n rows : ℕ} → Edits t edits₀ rows cells n → n < rows → rows ≡ count_in t 12 → e ≡ edit_at_row t n
-    → length cells' ≡ length cells → (SmallEdit e → cells' ≡ with_edit cells n e) → Edits t edits₀ rows cells' (n + 1)
-edits_next {t} {cells = cells} {e = e} {n = n} g h m q l w =
-    record {
-      within = omega arith;
-      long = l ∙ g.long;
-      loaded = λ s r.
-          let x = g.loaded s r in
-          let y : Storable e = rw q (s n (omega arith)) in
-          let room : n * edit_width + 3 < length cells = omega (arith, g.long) in
-          rw (w y.small)
-          (record { exact = λ j k. stored_exact cells n y room j k x.exact; are = λ j k. stored_is cells n y room t q j k x.are });
-    }
+pub edits_next : {t cells cells' : List ℕ} {e : Edit} {n : ℕ} → n * edit_width + 3 < length cells → Storable (edit_at_row t n) → e ≡ edit_at_row t n
+    → (SmallEdit e → cells' ≡ with_edit cells n e) → EditsLoaded t cells n → EditsLoaded t cells' (n + 1)
+edits_next {t} {cells} {e = e} {n = n} room s q w x =
+    let y : Storable e = rw q s in
+    rw (w y.small)
+    (record { exact = λ j k. stored_exact cells n y room j k x.exact; are = λ j k. stored_is cells n y room t q j k x.are })
 
-pub edits_done : {t edits₀ cells : List ℕ} {n rows : ℕ} → rows ≡ count_in t 12 → Edits t edits₀ rows cells n → rows ≤ n
-    → ((j : ℕ) → j < count_in t 12 → Storable (edit_at_row t j)) → count_in t 12 * edit_width ≤ length edits₀ → EditsLoaded t cells (count_in t 12)
-edits_done {t} {n = n} q g h s r = let e : n ≡ count_in t 12 = omega (arith, g.within) in rw e at (g.loaded s r)
-
--- the places before operand row n
-pub record Places (t places₀ : List ℕ) (rows : ℕ) (places : List ℕ) (n : ℕ) : Type 0 where
-  pub within : n ≤ rows
-  pub long : length places ≡ length places₀
-  pub loaded : count_in t 10 ≤ length places₀ → PlacesLoaded t places n
-
-pub places_first : (t places : List ℕ) (rows : ℕ) → Places t places rows places 0
-places_first t places rows = record { within = omega arith; long = refl; loaded = λ r j h. absurd (omega arith) }
-
-pub places_next : {t places₀ cells cells' row : List ℕ} {v n rows : ℕ} → Places t places₀ rows cells n → n < rows → rows ≡ count_in t 10 → row ≡ kind_row t 10 n → v ≡ field 5 row
-    → length cells' ≡ length cells → cells' ≡ set cells n v → Places t places₀ rows cells' (n + 1)
-places_next {cells = cells} {v = v} {n = n} g h m p q l w =
-    record {
-      within = omega arith;
-      long = l ∙ g.long;
-      loaded = λ r j k.
-          rw w
-          (by_eq j n
-          (λ e. rw e (get_or-set_same cells n v 0 (omega (arith, g.long)) ∙ q ∙ ap (field 5) p))
-          (λ e. get_or-set_other cells n j v 0 e ∙ g.loaded r j (omega arith)));
-    }
-
-pub places_done : {t places₀ cells : List ℕ} {n rows : ℕ} → rows ≡ count_in t 10 → Places t places₀ rows cells n → rows ≤ n → count_in t 10 ≤ length places₀ → PlacesLoaded t cells (count_in t 10)
-places_done {t} {n = n} q g h r = let e : n ≡ count_in t 10 = omega (arith, g.within) in rw e at (g.loaded r)
+pub places_next : (t cells : List ℕ) {cells' row : List ℕ} {v n : ℕ} → n < length cells → row ≡ kind_row t 10 n → v ≡ field 5 row → cells' ≡ set cells n v → PlacesLoaded t cells n → PlacesLoaded t cells' (n + 1)
+places_next t cells {v = v} {n = n} h p q w x j k =
+    rw w
+    (by_eq j n
+    (λ e. rw e (get_or-set_same cells n v 0 h ∙ q ∙ ap (field 5) p))
+    (λ e. get_or-set_other cells n j v 0 e ∙ x j (omega arith)))
 
 -- ---- an accepted sheet's edits
 

@@ -1,6 +1,6 @@
 -- For `check`, `read_and_check` and `clean` of src/lib.rt: what the answers of the checks say of the first refusal, and what the call then answers. Assumes nothing.
 use mathlib.Core.Path.{◌≡◌, refl, sym, ◌∙◌, ap, subst}
-use mathlib.Core.Bool.{Bool, true, false, cond, not, false≢true}
+use mathlib.Core.Bool.{Bool, true, false, cond}
 use mathlib.Core.List.{List, [], ◌∷◌, ◌++◌}
 use mathlib.Core.Option.{Option, none, some, bind, Option-elim}
 use Prim.Native.Nat.{ℕ, zero, suc, ◌-◌, ◌≤◌, ◌<◌}
@@ -17,8 +17,8 @@ use Rattle.laws.proofs.Cases.{by_bool, by_lt, by_option, some_ne_none}
 use Rattle.entity.specs.Limits.{byte_limit}
 use Rattle.entity.specs.Forms.{level_of, sum_of}
 use Rattle.entity.specs.declared.forms.Level.{Level}
-use Rattle.entity.specs.declared.forms.FoundLevel.{FoundLevel}
-use Rattle.entity.specs.declared.forms.FoundLevel.TheVariants as Found
+use Rattle.std.specs.Prelude.{Some, None, Ok, Err}
+use Rattle.std.specs.Prelude as Code
 use Rattle.entity.specs.declared.forms.Refusal.{Refusal}
 use Rattle.entity.specs.declared.forms.Refusal.TheVariants.{Rows, Limits, Names, Operands, Edits, Call, Room}
 use Rattle.rules.specs.Rows.{cells_of, sheet_ok, rows_of}
@@ -33,18 +33,6 @@ use Rattle.table.proofs.Parts.{room_short, room_middle, room_long}
 use Rattle.table.proofs.Sheets.{sheet_in_is}
 use Rattle.accept.specs.Blocks.{as_checked}
 use Rattle.drifthurdle.specs.Call.{sheet_refusal, TableOf, sheet_answer, as_outcome, Gives}
-use Rattle.accept.specs.declared.blocks.Checked.{Checked}
-use Rattle.drifthurdle.specs.declared.Outcome.{Outcome}
-
--- ---- tests
-
-pub is_false : {b : Bool} → not b ≡ true → b ≡ false
-is_false {b = true} e = absurd (false≢true e)
-is_false {b = false} e = refl
-
-pub is_true : {b : Bool} → not b ≡ false → b ≡ true
-is_true {b = true} e = refl
-is_true {b = false} e = absurd (false≢true (sym e))
 
 -- ---- a table that has room
 
@@ -79,11 +67,11 @@ pub one_rows : (s : List ℕ) {rs rs' : List (List ℕ)} {t : List ℕ} → rows
 one_rows s {rs} {rs'} e f g = let z : some rs ≡ some rs' = sym e ∙ f in let q : rs ≡ rs' = cc in rw q at g
 
 -- a sheet over 65,536 bytes
-pub too_long : (s : List ℕ) (level : Level) (swept : Bool) (capacity : ℕ) (out : List ℕ) → byte_limit < length s → Gives (sheet_answer s level swept capacity) (Outcome.Refused Rows) out out
+pub too_long : (s : List ℕ) (level : Level) (swept : Bool) (capacity : ℕ) (out : List ℕ) → byte_limit < length s → Gives (sheet_answer s level swept capacity) (Err Rows) out out
 unfolding sheet_answer as_outcome buffer rows_of Option-elim
 too_long s level swept capacity out h = let e : rows_of s ≡ none = rw (lt-leb (length s) byte_limit h) in rw e (refl, refl)
 
-pub rows_refuse : (s : List ℕ) → rows_of s ≡ none → Checked.Refused Rows ≡ as_checked (sheet_refusal s)
+pub rows_refuse : (s : List ℕ) → rows_of s ≡ none → Err Rows ≡ as_checked (sheet_refusal s)
 unfolding sheet_refusal as_checked Option-elim
 rows_refuse s e = rw e
 
@@ -93,12 +81,12 @@ rows_pass s rs e = rw e
 
 -- ---- 2 to 6 and 9 to 12
 
-refused_some : {o : Option Refusal} {r : Refusal} → Checked.Refused r ≡ as_checked o → o ≡ some r
+refused_some : {o : Option Refusal} {r : Refusal} → Err r ≡ as_checked o → o ≡ some r
 unfolding as_checked
 refused_some {o = none} e = let z : ◌≡◌ {A = ℕ} 0 1 = cc in absurd (omega arith)
 refused_some {o = some q} e = cc
 
-accepted_none : {o : Option Refusal} → Checked.Accepted ≡ as_checked o → o ≡ none
+accepted_none : {o : Option Refusal} → Ok tt ≡ as_checked o → o ≡ none
 unfolding as_checked
 accepted_none {o = none} e = refl
 accepted_none {o = some q} e = let z : ◌≡◌ {A = ℕ} 0 1 = cc in absurd (omega arith)
@@ -119,12 +107,12 @@ module _ (sh : Sheet) where
   abbrev rest : List (Bool × Refusal)
   rest = (operands_hold sh, Operands) ∷ (edits_hold sh, Edits) ∷ []
 
-  pub limits_fail : within_limits sh ≡ false → Checked.Refused Limits ≡ as_checked (first_refusal (checks sh))
+  pub limits_fail : within_limits sh ≡ false → Err Limits ≡ as_checked (first_refusal (checks sh))
   unfolding checks first_refusal as_checked
   limits_fail p = rw p
 
   module _ (p : within_limits sh ≡ true) where
-    names_fail : names_hold sh ≡ false → Checked.Refused Names ≡ as_checked (first_refusal (checks sh))
+    names_fail : names_hold sh ≡ false → Err Names ≡ as_checked (first_refusal (checks sh))
     unfolding checks first_refusal as_checked
     names_fail q = rw (p, q)
 
@@ -133,7 +121,7 @@ module _ (sh : Sheet) where
       unfolding checks first_refusal
       to_blocks = rw (p, q)
 
-      blocks_fail : {r : Refusal} → first_refusal (block_checks sh) ≡ some r → Checked.Refused r ≡ as_checked (first_refusal (checks sh))
+      blocks_fail : {r : Refusal} → first_refusal (block_checks sh) ≡ some r → Err r ≡ as_checked (first_refusal (checks sh))
       unfolding as_checked
       blocks_fail e = rw (to_blocks, fails_first rest (block_checks sh) e)
 
@@ -141,20 +129,20 @@ module _ (sh : Sheet) where
         to_operands : first_refusal (checks sh) ≡ first_refusal rest
         to_operands = to_blocks ∙ passes_first rest (block_checks sh) r
 
-        operands_fail : operands_hold sh ≡ false → Checked.Refused Operands ≡ as_checked (first_refusal (checks sh))
+        operands_fail : operands_hold sh ≡ false → Err Operands ≡ as_checked (first_refusal (checks sh))
         unfolding first_refusal as_checked
         operands_fail s = rw (to_operands, s)
 
-        edits_fail : operands_hold sh ≡ true → edits_hold sh ≡ false → Checked.Refused Edits ≡ as_checked (first_refusal (checks sh))
+        edits_fail : operands_hold sh ≡ true → edits_hold sh ≡ false → Err Edits ≡ as_checked (first_refusal (checks sh))
         unfolding first_refusal as_checked
         edits_fail s t = rw (to_operands, s, t)
 
-        none_fails : operands_hold sh ≡ true → edits_hold sh ≡ true → Checked.Accepted ≡ as_checked (first_refusal (checks sh))
+        none_fails : operands_hold sh ≡ true → edits_hold sh ≡ true → Ok tt ≡ as_checked (first_refusal (checks sh))
         unfolding first_refusal as_checked
         none_fails s t = rw (to_operands, s, t)
 
 module _ {rs : List (List ℕ)} {t : List ℕ} (x : Indexed rs t) {w : Bool} (e : w ≡ within_limits (sheet_in t)) where
-  pub limits_refuse : w ≡ false → Checked.Refused Limits ≡ as_checked (first_refusal (checks (sheet_of rs)))
+  pub limits_refuse : w ≡ false → Err Limits ≡ as_checked (first_refusal (checks (sheet_of rs)))
   limits_refuse f = limits_fail (sheet_of rs) (sym (e ∙ ap within_limits (sheet_in_is x)) ∙ f)
 
   pub limits_pass : w ≡ true → within_limits (sheet_of rs) ≡ true
@@ -172,37 +160,37 @@ module _ {rs : List (List ℕ)} {t : List ℕ} (x : Indexed rs t) (ok : sheet_ok
     names_are : n ≡ names_hold (sheet_of rs)
     names_are = N (rw same limits) ∙ ap names_hold same
 
-    pub names_refuse : n ≡ false → Checked.Refused Names ≡ as_checked (first_refusal (checks (sheet_of rs)))
+    pub names_refuse : n ≡ false → Err Names ≡ as_checked (first_refusal (checks (sheet_of rs)))
     names_refuse e = names_fail (sheet_of rs) limits (sym names_are ∙ e)
 
-    module _ (n! : n ≡ true) {b : Checked} (B : Ready t → b ≡ as_checked (first_refusal (block_checks (sheet_in t)))) where
+    module _ (n! : n ≡ true) {b : Code.Result (Unit {0}) Refusal} (B : Ready t → b ≡ as_checked (first_refusal (block_checks (sheet_in t)))) where
       named : names_hold (sheet_of rs) ≡ true
       named = sym names_are ∙ n!
 
       blocks_are : b ≡ as_checked (first_refusal (block_checks (sheet_of rs)))
       blocks_are = B (ready named) ∙ ap (λ (sh : Sheet). as_checked (first_refusal (block_checks sh))) same
 
-      pub blocks_refuse : {r : Refusal} → b ≡ Checked.Refused r → Checked.Refused r ≡ as_checked (first_refusal (checks (sheet_of rs)))
+      pub blocks_refuse : {r : Refusal} → b ≡ Err r → Err r ≡ as_checked (first_refusal (checks (sheet_of rs)))
       blocks_refuse e = blocks_fail (sheet_of rs) limits named (refused_some (sym e ∙ blocks_are))
 
-      module _ (b! : b ≡ Checked.Accepted) {o : Bool} (O : Ready t → o ≡ operands_hold (sheet_in t)) where
+      module _ (b! : b ≡ Ok tt) {o : Bool} (O : Ready t → o ≡ operands_hold (sheet_in t)) where
         passed : first_refusal (block_checks (sheet_of rs)) ≡ none
         passed = accepted_none (sym b! ∙ blocks_are)
 
         operands_are : o ≡ operands_hold (sheet_of rs)
         operands_are = O (ready named) ∙ ap operands_hold same
 
-        pub operands_refuse : o ≡ false → Checked.Refused Operands ≡ as_checked (first_refusal (checks (sheet_of rs)))
+        pub operands_refuse : o ≡ false → Err Operands ≡ as_checked (first_refusal (checks (sheet_of rs)))
         operands_refuse e = operands_fail (sheet_of rs) limits named passed (sym operands_are ∙ e)
 
         module _ (o! : o ≡ true) {d : Bool} (D : Ready t → d ≡ edits_hold (sheet_in t)) where
           edits_are : d ≡ edits_hold (sheet_of rs)
           edits_are = D (ready named) ∙ ap edits_hold same
 
-          pub edits_refuse : d ≡ false → Checked.Refused Edits ≡ as_checked (first_refusal (checks (sheet_of rs)))
+          pub edits_refuse : d ≡ false → Err Edits ≡ as_checked (first_refusal (checks (sheet_of rs)))
           edits_refuse e = edits_fail (sheet_of rs) limits named passed (sym operands_are ∙ o!) (sym edits_are ∙ e)
 
-          pub all_pass : d ≡ true → Checked.Accepted ≡ as_checked (first_refusal (checks (sheet_of rs)))
+          pub all_pass : d ≡ true → Ok tt ≡ as_checked (first_refusal (checks (sheet_of rs)))
           all_pass e = none_fails (sheet_of rs) limits named passed (sym operands_are ∙ o!) (sym edits_are ∙ e)
 
 -- ---- the table, where no check fails
@@ -223,7 +211,7 @@ tabled {rs} x ok l b e = record { ready = ready x ok l b (none_named (sheet_of r
 -- ---- 1 to 6 and 9 to 12, and the answer
 
 -- a refusal writes nothing
-gives_refused : {a : Answer} {r : Refusal} (out : List ℕ) → a ≡ refused r → Gives a (Outcome.Refused r) out out
+gives_refused : {a : Answer} {r : Refusal} (out : List ℕ) → a ≡ refused r → Gives a (Err r) out out
 unfolding as_outcome buffer
 gives_refused out e = rw e (refl, refl)
 
@@ -243,11 +231,11 @@ module _ (sheet : List ℕ) (level : Level) (swept : Bool) where
       (λ q. let e' : some Rows ≡ none = rw q at e in some_ne_none refl e')
       (λ rows q. let e' : first_refusal (checks (sheet_of rows)) ≡ none = rw q at e in (rows, q, e', rw (q, e')))
 
-  module _ {c : Checked} (k : c ≡ as_checked (sheet_refusal sheet)) (out : List ℕ) where
-    pub check_refused : {r : Refusal} → c ≡ Checked.Refused r → Gives (sheet_answer sheet level swept (length out)) (Outcome.Refused r) out out
+  module _ {c : Code.Result (Unit {0}) Refusal} (k : c ≡ as_checked (sheet_refusal sheet)) (out : List ℕ) where
+    pub check_refused : {r : Refusal} → c ≡ Err r → Gives (sheet_answer sheet level swept (length out)) (Err r) out out
     check_refused f = gives_refused out (sheet_refused (length out) (refused_some (sym f ∙ k)))
 
-    pub check_accepted : {o : Outcome} {new : List ℕ} {t : List ℕ} → c ≡ Checked.Accepted
+    pub check_accepted : {o : Code.Result ℕ Refusal} {new : List ℕ} {t : List ℕ} → c ≡ Ok tt
         → ((rs : List (List ℕ)) → rows_of sheet ≡ some rs → first_refusal (checks (sheet_of rs)) ≡ none → TableOf rs t)
         → (Ready t → first_refusal (checks (sheet_in t)) ≡ none → Gives (fitted (cleaned (sheet_in t) level swept) (length out)) o out new)
         → Gives (sheet_answer sheet level swept (length out)) o out new
@@ -259,39 +247,39 @@ module _ (sheet : List ℕ) (level : Level) (swept : Bool) where
 -- ---- 7
 
 module _ (sheet : List ℕ) (level flag : ℕ) where
-  pub call_refused : (out : List ℕ) → called level flag ≡ none → Gives (answer sheet level flag (length out)) (Outcome.Refused Call) out out
+  pub call_refused : (out : List ℕ) → called level flag ≡ none → Gives (answer sheet level flag (length out)) (Err Call) out out
   unfolding answer Option-elim
   call_refused out e = gives_refused out (rw e)
 
-  pub call_passed : (out : List ℕ) {l : Level} {s : Bool} {o : Outcome} {new : List ℕ} → called level flag ≡ some (l, s) → Gives (sheet_answer sheet l s (length out)) o out new
+  pub call_passed : (out : List ℕ) {l : Level} {s : Bool} {o : Code.Result ℕ Refusal} {new : List ℕ} → called level flag ≡ some (l, s) → Gives (sheet_answer sheet l s (length out)) o out new
       → Gives (answer sheet level flag (length out)) o out new
   unfolding answer sheet_answer Option-elim
   call_passed out e k = rw e k
 
-abbrev pub by_level : FoundLevel → ℕ → Option (Level × Bool)
-by_level (Found.At l) flag = cond (leb flag 1) (some (l, eqb flag 1)) none
-by_level Found.Nothing flag = none
+abbrev pub by_level : Code.Option Level → ℕ → Option (Level × Bool)
+by_level (Some l) flag = cond (leb flag 1) (some (l, eqb flag 1)) none
+by_level None flag = none
 
 pub called_is : (level flag : ℕ) → called level flag ≡ by_level (level_of level) flag
 unfolding called
 called_is level flag = go (level_of level)
   where
-    go : (f : FoundLevel) → elim f [ Found.At l ↦ cond (leb flag 1) (some (l, eqb flag 1)) none | Found.Nothing ↦ none ] ≡ by_level f flag
-    go (Found.At l) = refl
-    go Found.Nothing = refl
+    go : (f : Code.Option Level) → elim f [ Some l ↦ cond (leb flag 1) (some (l, eqb flag 1)) none | None ↦ none ] ≡ by_level f flag
+    go (Some l) = refl
+    go None = refl
 
-module _ {f : FoundLevel} (level : ℕ) (e : f ≡ level_of level) (flag : ℕ) where
-  pub no_level : f ≡ Found.Nothing → called level flag ≡ none
-  no_level g = called_is level flag ∙ ap (λ (x : FoundLevel). by_level x flag) (sym e ∙ g)
+module _ {f : Code.Option Level} (level : ℕ) (e : f ≡ level_of level) (flag : ℕ) where
+  pub no_level : f ≡ None → called level flag ≡ none
+  no_level g = called_is level flag ∙ ap (λ (x : Code.Option Level). by_level x flag) (sym e ∙ g)
 
-  pub no_flag : {l : Level} → f ≡ Found.At l → 1 < flag → called level flag ≡ none
+  pub no_flag : {l : Level} → f ≡ Some l → 1 < flag → called level flag ≡ none
   no_flag {l} g h =
-      called_is level flag ∙ ap (λ (x : FoundLevel). by_level x flag) (sym e ∙ g)
+      called_is level flag ∙ ap (λ (x : Code.Option Level). by_level x flag) (sym e ∙ g)
       ∙ ap (λ (b : Bool). cond b (some (l, eqb flag 1)) none) (lt-leb flag 1 h)
 
-  pub level_and_flag : {l : Level} → f ≡ Found.At l → flag ≤ 1 → called level flag ≡ some (l, eqb flag 1)
+  pub level_and_flag : {l : Level} → f ≡ Some l → flag ≤ 1 → called level flag ≡ some (l, eqb flag 1)
   level_and_flag {l} g h =
-      called_is level flag ∙ ap (λ (x : FoundLevel). by_level x flag) (sym e ∙ g)
+      called_is level flag ∙ ap (λ (x : Code.Option Level). by_level x flag) (sym e ∙ g)
       ∙ ap (λ (b : Bool). cond b (some (l, eqb flag 1)) none) (le-leb flag 1 h)
 
 -- ---- a text that is written
@@ -312,23 +300,23 @@ pub record Wrote (sheet : List ℕ) (level flag capacity : ℕ) (out : List ℕ)
   pub rows : List (List ℕ)
   pub named : Level
   pub rows_are : rows_of sheet ≡ some rows
-  pub level_is : level_of level ≡ Found.At named
+  pub level_is : level_of level ≡ Some named
   pub pass : first_refusal (checks (sheet_of rows)) ≡ none
   pub text : out ≡ cleaned (sheet_of rows) named (eqb flag 1)
   pub fits : length out ≤ capacity
 
-level_of_lem : (level flag : ℕ) (c : Level × Bool) → called level flag ≡ some c → (level_of level ≡ Found.At c.0) × (c.1 ≡ eqb flag 1)
+level_of_lem : (level flag : ℕ) (c : Level × Bool) → called level flag ≡ some c → (level_of level ≡ Some c.0) × (c.1 ≡ eqb flag 1)
 level_of_lem level flag c e = go (level_of level) (sym (called_is level flag) ∙ e)
   where
-    go : (f : FoundLevel) → by_level f flag ≡ some c → (f ≡ Found.At c.0) × (c.1 ≡ eqb flag 1)
-    go (Found.At l) e =
+    go : (f : Code.Option Level) → by_level f flag ≡ some c → (f ≡ Some c.0) × (c.1 ≡ eqb flag 1)
+    go (Some l) e =
         by_bool (leb flag 1)
         (λ p.
         let e' : some (l, eqb flag 1) ≡ some c = rw p at e in
         let q : (l, eqb flag 1) ≡ c = cc in
-        (ap (λ (x : Level × Bool). Found.At x.0) q, sym (ap (λ (x : Level × Bool). x.1) q)))
+        (ap (λ (x : Level × Bool). Some x.0) q, sym (ap (λ (x : Level × Bool). x.1) q)))
         (λ p. let e' : none ≡ some c = rw p at e in some_ne_none {a = c} refl (sym e'))
-    go Found.Nothing e = some_ne_none e refl
+    go None e = some_ne_none e refl
 
 pub wrote : (sheet : List ℕ) (level flag capacity : ℕ) (out : List ℕ) → answer sheet level flag capacity ≡ written out → Wrote sheet level flag capacity out
 unfolding answer checked Option-elim
@@ -370,27 +358,27 @@ small (suc n) h = omega arith
 pub minus_fits : (n : ℕ) → n < 4294967296 → SFits w64 (to_z w64 0 -ℤ to_z w64 n)
 minus_fits n h = subst (λ (z : ℤ). SFits w64 z) (sym (minus_is n h)) (record { sfits = small n h })
 
-pub outcome_refused : (a : Answer) {r : Refusal} → Outcome.Refused r ≡ as_outcome a → a ≡ refused r
+pub outcome_refused : (a : Answer) {r : Refusal} → Err r ≡ as_outcome a → a ≡ refused r
 unfolding as_outcome
 outcome_refused (refused q) {r} e = let z : q ≡ r = cc in rw z
 outcome_refused (written text) e = let z : ◌≡◌ {A = ℕ} 0 1 = cc in absurd (omega arith)
 
-pub outcome_written : (a : Answer) {n : ℕ} → Outcome.Written n ≡ as_outcome a → (text : List ℕ) × (a ≡ written text) × (n ≡ length text)
+pub outcome_written : (a : Answer) {n : ℕ} → Ok n ≡ as_outcome a → (text : List ℕ) × (a ≡ written text) × (n ≡ length text)
 unfolding as_outcome
 outcome_written (refused q) e = let z : ◌≡◌ {A = ℕ} 0 1 = cc in absurd (omega arith)
 outcome_written (written text) e = (text, refl, cc)
 
 -- what is written fits the buffer
-pub fits_in : (sheet : List ℕ) (level flag capacity : ℕ) {o : Outcome} {n : ℕ} → o ≡ as_outcome (answer sheet level flag capacity) → o ≡ Outcome.Written n → n ≤ capacity
+pub fits_in : (sheet : List ℕ) (level flag capacity : ℕ) {o : Code.Result ℕ Refusal} {n : ℕ} → o ≡ as_outcome (answer sheet level flag capacity) → o ≡ Ok n → n ≤ capacity
 fits_in sheet level flag capacity e f =
     let w = outcome_written (answer sheet level flag capacity) (sym f ∙ e) in
     rw w.2 (wrote sheet level flag capacity w.0 w.1).fits
 
-module _ (a : Answer) {o : Outcome} (e : o ≡ as_outcome a) where
-  pub number_refused : {r : Refusal} {z : ℤ} → o ≡ Outcome.Refused r → z ≡ neg_ℤ (pos (sum_of r)) → z ≡ returned a
+module _ (a : Answer) {o : Code.Result ℕ Refusal} (e : o ≡ as_outcome a) where
+  pub number_refused : {r : Refusal} {z : ℤ} → o ≡ Err r → z ≡ neg_ℤ (pos (sum_of r)) → z ≡ returned a
   unfolding returned
   number_refused f g = rw (outcome_refused a (sym f ∙ e)) g
 
-  pub number_written : {n : ℕ} {z : ℤ} → o ≡ Outcome.Written n → z ≡ pos n → z ≡ returned a
+  pub number_written : {n : ℕ} {z : ℤ} → o ≡ Ok n → z ≡ pos n → z ≡ returned a
   unfolding returned
   number_written f g = let w = outcome_written a (sym f ∙ e) in rw w.1 (g ∙ ap pos w.2)

@@ -2,7 +2,7 @@
 use mathlib.Core.Path.{◌≡◌, sym, ◌∙◌}
 use mathlib.Core.Option.{none, some}
 use Rattle.entity.specs.declared.forms.Level.{Level}
-use Rattle.entity.specs.declared.forms.FoundLevel.TheVariants as Found
+use Rattle.std.specs.Prelude.{Some}
 use Rattle.rules.specs.Sheet.{Sheet, sheet_of}
 use Rattle.rules.specs.Answer.{first_refusal, checks, cleaned}
 use Rattle.run.specs.Swept.{folded_places, edits_before, edits_after}
@@ -23,7 +23,7 @@ sweep_is_safe_and_exact sheet level capacity capacity' plain swept e f =
     let x = wrote sheet level 0 capacity plain e in
     let y = wrote sheet level 1 capacity' swept f in
     let r : y.rows ≡ x.rows = let z : some y.rows ≡ some x.rows = sym y.rows_are ∙ x.rows_are in cc in
-    let n : y.named ≡ x.named = let z : Found.At y.named ≡ Found.At x.named = sym y.level_is ∙ x.level_is in cc in
+    let n : y.named ≡ x.named = let z : Some y.named ≡ Some x.named = sym y.level_is ∙ x.level_is in cc in
     record {
       rows = x.rows;
       named = x.named;

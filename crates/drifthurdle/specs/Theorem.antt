@@ -1,11 +1,10 @@
 -- What the sweep does to an answer: document 01's "Safe" and "Exact" between the call without it and the call with it.
-use Rattle.std.specs.Prelude.{◌≡◌, List, ℕ}
+use Rattle.std.specs.Prelude.{◌≡◌, List, ℕ, Some}
 use Rattle.std.proofs.Math.Option.{some}
 use Rattle.entity.specs.Forms.{level_of}
 use Rattle.entity.specs.declared.forms.Place.{Place}
 use Rattle.entity.specs.declared.forms.Edit.{Edit}
 use Rattle.entity.specs.declared.forms.Level.{Level}
-use Rattle.entity.specs.declared.forms.FoundLevel.TheVariants as Found
 use Rattle.rules.specs.{Rows.rows_of, Sheet.Sheet, Sheet.sheet_of, Function.func_of, Answer.written, Answer.output, Answer.answer}
 use Rattle.run.specs.Swept.{optimised, final, folded_places, edits_before, edits_after}
 use Rattle.run.specs.Theorem.{RunsAgree, ExactEdits}
@@ -21,7 +20,7 @@ pub record TextsSwept (sheet : List ℕ) (level : ℕ) (plain swept : List ℕ) 
   pub rows : List (List ℕ)
   pub named : Level
   pub rows_are : rows_of sheet ≡ some rows
-  pub level_is : level_of level ≡ Found.At named
+  pub level_is : level_of level ≡ Some named
   pub before : plain ≡ output (sheet_of rows) (optimised (sheet_of rows) named)
   pub after : swept ≡ output (sheet_of rows) (final (sheet_of rows) named)
   pub holds : SafeAndExact (sheet_of rows) (folded_places (sheet_of rows) named) (edits_before (sheet_of rows) named) (edits_after (sheet_of rows) named)

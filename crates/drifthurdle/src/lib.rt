@@ -1,5 +1,5 @@
 // The call for host compilers: a sheet's bytes, level, sweep flag and output buffer. It optimises, then sweeps if the flag is 1, and returns how
-// many bytes it wrote, or minus a refusal's sum of 100 times the row and the number, and then it wrote none. `clean` is the same for callers in Rattle: an enum instead of a number.
+// many bytes it wrote, or minus a refusal's sum of 100 times the row and the number, and then it wrote none. `clean` is the same for callers in Rattle: a Result instead of a number.
 #![tactic(auto)]
 
 ghost use Rattle.std.specs.Prelude.{◌≡◌, true, List, ℕ, ◌*◌, ◌≤◌, ◌<◌, pos, neg_ℤ, length};
@@ -22,70 +22,72 @@ ghost use Rattle.drifthurdle.specs.Call.{sheet_refusal, TableOf, sheet_answer, a
 ghost use Rattle.drifthurdle.specs.Loading.{Storable, EditsLoaded, PlacesLoaded};
 ghost use Rattle.drifthurdle.specs.Theorem.{SweepIsSafeAndExact};
 
-use accept::blocks::{Checked, check_blocks};
+use accept::blocks::check_blocks;
 use accept::constraints::operands_hold;
 use accept::edits::edits_hold;
 use answer::rows::{COUNTS, most, render};
-use bits::tables::{read_u32, store_u32};
+use bits::tables::{read, store};
 use dead_spill_elimination::sweep::sweep_edits;
-use entity::forms::{FoundLevel, Level, Refusal};
+use entity::forms::{Level, Refusal};
 use entity::numbers::{EditRow, OperandRow, SheetByte};
 use move_optimizer::levels::optimise;
 use names::limits::within_limits;
 use names::names::names_hold;
-use sheet::read;
 use table::edits::{WIDTH, sheet_edit, store_edit};
 use table::index::build;
 use table::rows::{Kind, count, row_of};
+use table::{LONG, MIDDLE, SHORT};
 
 // The most bytes of a sheet.
 const BYTES: usize = SheetByte::LIMIT as usize;
 
-#[derive(Clone, Copy)]
-pub enum Outcome {
-    Refused(Refusal),
-    Written(usize),
-}
+// Room for 64 edits and 64 operands, where there are no more, and for all of them.
+const FEW_CELLS: usize = 64 * WIDTH;
 
+const FEW_PLACES: usize = 64;
+
+const ALL_CELLS: usize = EditRow::LIMIT as usize * WIDTH;
+
+const ALL_PLACES: usize = OperandRow::LIMIT as usize;
+
+// Stays: `level` and `swept` are the call's own arguments, handed on to where they are read.
 // 3 to 6 and 9 to 12, where 1 and 2 hold and the index is built.
-fn check_ready(t: &[u32]) -> Checked
+fn check_ready(t: &[u32]) -> Result<(), Refusal>
     ensures { (rs : List (List ℕ)) → Indexed rs t.now → sheet_ok rs ≡ true → within_limits (sheet_of rs) ≡ true → Built t.now
         → result ≡ as_checked (first_refusal (checks (sheet_of rs))) }
 {
     if !names_hold(t) {
-        return Checked::Refused(Refusal::Names);
+        return Err(Refusal::Names);
     }
-    if let Checked::Refused(r) = check_blocks(t) {
-        return Checked::Refused(r);
-    }
+    check_blocks(t)?;
     if !operands_hold(t) {
-        return Checked::Refused(Refusal::Operands);
+        return Err(Refusal::Operands);
     }
     if !edits_hold(t) {
-        return Checked::Refused(Refusal::Edits);
+        return Err(Refusal::Edits);
     }
-    Checked::Accepted
+    Ok(())
 }
 
 // 2 to 6 and 9 to 12 in the table's order; the index is built once the limits hold.
-fn check(t: &mut [u32]) -> Checked
+fn check(t: &mut [u32]) -> Result<(), Refusal>
     ensures { (rs : List (List ℕ)) → Indexed rs t.old → sheet_ok rs ≡ true
         → (result ≡ as_checked (first_refusal (checks (sheet_of rs)))) × (first_refusal (checks (sheet_of rs)) ≡ none → TableOf rs t.new) }
 {
     if !within_limits(t) {
-        return Checked::Refused(Refusal::Limits);
+        return Err(Refusal::Limits);
     }
     build(t);
     check_ready(t)
 }
 
 // 1 to 6 and 9 to 12: the sheet into the table.
-fn read_and_check(sheet: &[u8], t: &mut [u32]) -> Checked
+fn read_and_check(sheet: &[u8], t: &mut [u32]) -> Result<(), Refusal>
     ensures { table_length (length sheet.now) ≤ length t.old → (result ≡ as_checked (sheet_refusal sheet.now))
         × ((rs : List (List ℕ)) → rows_of sheet.now ≡ some rs → first_refusal (checks (sheet_of rs)) ≡ none → TableOf rs t.new) }
 {
-    if !read(sheet, t) {
-        return Checked::Refused(Refusal::Rows);
+    if !sheet::read(sheet, t) {
+        return Err(Refusal::Rows);
     }
     check(t)
 }
@@ -95,11 +97,8 @@ fn load_edits(t: &[u32], edits: &mut [u32])
     ensures { ((j : ℕ) → j < count_in t.now 12 → Storable (edit_at_row t.now j)) → count_in t.now 12 * edit_width ≤ length edits.old
         → EditsLoaded t.now edits.new (count_in t.now 12) }
 {
-    let rows = count(t, Kind::EDIT);
-    let mut n: u32 = 0;
-    while n < rows {
+    for n in 0..count(t, Kind::EDIT) {
         store_edit(edits, EditRow(n), sheet_edit(t, EditRow(n)));
-        n += 1;
     }
 }
 
@@ -107,35 +106,44 @@ fn load_edits(t: &[u32], edits: &mut [u32])
 fn load_places(t: &[u32], places: &mut [u32])
     ensures { count_in t.now 10 ≤ length places.old → PlacesLoaded t.now places.new (count_in t.now 10) }
 {
-    let rows = count(t, Kind::OP);
-    let mut n: u32 = 0;
-    while n < rows {
-        store_u32(places, n as usize, read_u32(row_of(t, Kind::OP, n), 5));
-        n += 1;
+    for n in 0..count(t, Kind::OP) {
+        store(places, n as usize, read(row_of(t, Kind::OP, n), 5, 0));
     }
 }
 
 // The answer is measured first, and written only if it fits.
-fn measured(t: &[u32], edits: &[u32], places: &[u32], counts: &[u32], out: &mut [u8]) -> Outcome
+fn measured(
+    t: &[u32],
+    edits: &[u32],
+    places: &[u32],
+    counts: &[u32],
+    out: &mut [u8],
+) -> Result<usize, Refusal>
     ensures { (w : Walk) → Stands t.now edits.now places.now counts.now w
         → Gives (fitted (output (sheet_in t.now) w) (length out.old)) result out.old out.new }
 {
     let mut nothing = [0u8; 0];
     let length = render(t, edits, places, counts, &mut nothing);
     if out.len() < length {
-        return Outcome::Refused(Refusal::Room);
+        return Err(Refusal::Room);
     }
     render(t, edits, places, counts, out);
-    Outcome::Written(length)
+    Ok(length)
 }
 
 // The same; an answer that is sure to fit is not measured.
-fn fitted(t: &[u32], edits: &[u32], places: &[u32], counts: &[u32], out: &mut [u8]) -> Outcome
+fn fitted(
+    t: &[u32],
+    edits: &[u32],
+    places: &[u32],
+    counts: &[u32],
+    out: &mut [u8],
+) -> Result<usize, Refusal>
     ensures { (w : Walk) → Stands t.now edits.now places.now counts.now w
         → Gives (fitted (output (sheet_in t.now) w) (length out.old)) result out.old out.new }
 {
     if most(t) <= out.len() {
-        return Outcome::Written(render(t, edits, places, counts, out));
+        return Ok(render(t, edits, places, counts, out));
     }
     measured(t, edits, places, counts, out)
 }
@@ -147,7 +155,7 @@ fn cleaned_in(
     edits: &mut [u32],
     places: &mut [u32],
     out: &mut [u8],
-) -> Outcome
+) -> Result<usize, Refusal>
     ensures { Ready t.now → first_refusal (checks (sheet_in t.now)) ≡ none → count_in t.now 12 * edit_width ≤ length edits.old → count_in t.now 10 ≤ length places.old
         → Gives (fitted (cleaned (sheet_in t.now) level swept) (length out.old)) result out.old out.new }
 {
@@ -162,97 +170,87 @@ fn cleaned_in(
     fitted(t, edits, places, &counts, out)
 }
 
-// Room for 64 edits and 64 operands, where there are no more.
-fn cleaned_small(t: &[u32], level: Level, swept: bool, out: &mut [u8]) -> Outcome
-    ensures { Ready t.now → first_refusal (checks (sheet_in t.now)) ≡ none → count_in t.now 12 ≤ 64 → count_in t.now 10 ≤ 64
+// With room for so many cells of edits and so many places.
+fn cleaned_by<const CELLS: usize, const PLACES: usize>(
+    t: &[u32],
+    level: Level,
+    swept: bool,
+    out: &mut [u8],
+) -> Result<usize, Refusal>
+    requires cells { CELLS ≤ ALL_CELLS }
+    requires places { PLACES ≤ ALL_PLACES }
+    ensures { Ready t.now → first_refusal (checks (sheet_in t.now)) ≡ none → count_in t.now 12 * edit_width ≤ CELLS → count_in t.now 10 ≤ PLACES
         → Gives (fitted (cleaned (sheet_in t.now) level swept) (length out.old)) result out.old out.new }
 {
-    let mut edits = [0u32; 64 * WIDTH];
-    let mut places = [0u32; 64];
+    let mut edits = [0u32; CELLS];
+    let mut places = [0u32; PLACES];
     cleaned_in(t, level, swept, &mut edits, &mut places, out)
 }
 
-fn cleaned_large(t: &[u32], level: Level, swept: bool, out: &mut [u8]) -> Outcome
+fn cleaned(t: &[u32], level: Level, swept: bool, out: &mut [u8]) -> Result<usize, Refusal>
     ensures { Ready t.now → first_refusal (checks (sheet_in t.now)) ≡ none
         → Gives (fitted (cleaned (sheet_in t.now) level swept) (length out.old)) result out.old out.new }
 {
-    let mut edits = [0u32; EditRow::LIMIT as usize * WIDTH];
-    let mut places = [0u32; OperandRow::LIMIT as usize];
-    cleaned_in(t, level, swept, &mut edits, &mut places, out)
-}
-
-fn cleaned(t: &[u32], level: Level, swept: bool, out: &mut [u8]) -> Outcome
-    ensures { Ready t.now → first_refusal (checks (sheet_in t.now)) ≡ none
-        → Gives (fitted (cleaned (sheet_in t.now) level swept) (length out.old)) result out.old out.new }
-{
-    if count(t, Kind::EDIT) <= 64 {
-        if count(t, Kind::OP) <= 64 {
-            return cleaned_small(t, level, swept, out);
-        }
+    if count(t, Kind::EDIT) <= 64 && count(t, Kind::OP) <= 64 {
+        return cleaned_by::<FEW_CELLS, FEW_PLACES>(t, level, swept, out);
     }
-    cleaned_large(t, level, swept, out)
+    cleaned_by::<ALL_CELLS, ALL_PLACES>(t, level, swept, out)
 }
 
 // The sheet by way of a table that has room for it.
-fn clean_in(t: &mut [u32], sheet: &[u8], level: Level, swept: bool, out: &mut [u8]) -> Outcome
+fn clean_in(
+    t: &mut [u32],
+    sheet: &[u8],
+    level: Level,
+    swept: bool,
+    out: &mut [u8],
+) -> Result<usize, Refusal>
     ensures { table_length (length sheet.now) ≤ length t.old
         → Gives (sheet_answer sheet.now level swept (length out.old)) result out.old out.new }
 {
-    match read_and_check(sheet, t) {
-        Checked::Refused(r) => Outcome::Refused(r),
-        Checked::Accepted => cleaned(t, level, swept, out),
-    }
+    read_and_check(sheet, t)?;
+    cleaned(t, level, swept, out)
 }
 
-fn clean_short(sheet: &[u8], level: Level, swept: bool, out: &mut [u8]) -> Outcome
-    ensures { length sheet.now ≤ 1024
+// The sheet by way of a table of N cells.
+fn clean_by<const N: usize>(
+    sheet: &[u8],
+    level: Level,
+    swept: bool,
+    out: &mut [u8],
+) -> Result<usize, Refusal>
+    requires { N ≤ LONG }
+    ensures { table_length (length sheet.now) ≤ N
         → Gives (sheet_answer sheet.now level swept (length out.old)) result out.old out.new }
 {
-    let mut t = [0u32; table::SHORT];
+    let mut t = [0u32; N];
     clean_in(&mut t, sheet, level, swept, out)
 }
 
-fn clean_middle(sheet: &[u8], level: Level, swept: bool, out: &mut [u8]) -> Outcome
-    ensures { length sheet.now ≤ 8192
-        → Gives (sheet_answer sheet.now level swept (length out.old)) result out.old out.new }
-{
-    let mut t = [0u32; table::MIDDLE];
-    clean_in(&mut t, sheet, level, swept, out)
-}
-
-fn clean_long(sheet: &[u8], level: Level, swept: bool, out: &mut [u8]) -> Outcome
-    ensures { Gives (sheet_answer sheet.now level swept (length out.old)) result out.old out.new }
-{
-    let mut t = [0u32; table::LONG];
-    clean_in(&mut t, sheet, level, swept, out)
-}
-
-fn read_and_clean(sheet: &[u8], level: Level, swept: bool, out: &mut [u8]) -> Outcome
+fn read_and_clean(sheet: &[u8], level: Level, swept: bool, out: &mut [u8]) -> Result<usize, Refusal>
     ensures { Gives (sheet_answer sheet.now level swept (length out.old)) result out.old out.new }
 {
     if sheet.len() <= 1024 {
-        return clean_short(sheet, level, swept, out);
+        return clean_by::<SHORT>(sheet, level, swept, out);
     }
     if sheet.len() <= 8192 {
-        return clean_middle(sheet, level, swept, out);
+        return clean_by::<MIDDLE>(sheet, level, swept, out);
     }
     if BYTES < sheet.len() {
-        return Outcome::Refused(Refusal::Rows);
+        return Err(Refusal::Rows);
     }
-    clean_long(sheet, level, swept, out)
+    clean_by::<LONG>(sheet, level, swept, out)
 }
 
-pub fn clean(sheet: &[u8], level: u32, sweep: u32, out: &mut [u8]) -> Outcome
+pub fn clean(sheet: &[u8], level: u32, sweep: u32, out: &mut [u8]) -> Result<usize, Refusal>
     ensures { (result ≡ as_outcome (answer sheet.now level sweep (length out.old)))
         × (out.new ≡ buffer (answer sheet.now level sweep (length out.old)) out.old) }
 {
-    let FoundLevel::At(l) = Level::of(level) else {
-        return Outcome::Refused(Refusal::Call);
-    };
+    let level = Level::of(level).ok_or(Refusal::Call)?;
     if 1 < sweep {
-        return Outcome::Refused(Refusal::Call);
+        return Err(Refusal::Call);
     }
-    read_and_clean(sheet, l, sweep == 1, out)
+    read_and_clean(sheet, level, sweep == 1, out)
 }
 
 // Minus the sum of 100 times the row and the number.
@@ -268,8 +266,8 @@ pub extern "C" fn drifthurdle_clean(sheet: &[u8], level: u32, sweep: u32, out: &
         × (out.new ≡ buffer (answer sheet.now level sweep (length out.old)) out.old) }
 {
     match clean(sheet, level, sweep, out) {
-        Outcome::Refused(r) => refused(r),
-        Outcome::Written(n) => n as i64,
+        Err(r) => refused(r),
+        Ok(n) => n as i64,
     }
 }
 

@@ -1,8 +1,7 @@
 -- Document 01's numbers for the cases of each enum, and document 02's rows of refusals.
-use Rattle.std.specs.Prelude.{ℕ, ◌+◌, ◌*◌, eqb}
+use Rattle.std.specs.Prelude.{ℕ, ◌+◌, ◌*◌, eqb, Option, Some, None}
 use Rattle.laws.specs.Choice.{pick}
 use Rattle.entity.specs.declared.forms.Level.{Level, TheVariants.Off, TheVariants.Local, TheVariants.Forward, TheVariants.Global}
-use Rattle.entity.specs.declared.forms.FoundLevel.{FoundLevel, TheVariants.At, TheVariants.Nothing}
 use Rattle.entity.specs.declared.forms.Refusal.{Refusal, TheVariants.Rows, TheVariants.Limits, TheVariants.Names, TheVariants.NoEntry, TheVariants.Empty, TheVariants.Disagree, TheVariants.Edges, TheVariants.NotSmaller, TheVariants.NotReached, TheVariants.Operands, TheVariants.Edits, TheVariants.Call, TheVariants.Room}
 use Rattle.entity.specs.declared.forms.Told.{Told}
 
@@ -13,13 +12,13 @@ level_number Local = 1
 level_number Forward = 2
 level_number Global = 3
 
-abbrev pub level_of : ℕ → FoundLevel
+abbrev pub level_of : ℕ → Option Level
 level_of n =
-    pick (eqb n 0) (At Off)
-    (pick (eqb n 1) (At Local)
-    (pick (eqb n 2) (At Forward)
-    (pick (eqb n 3) (At Global)
-    Nothing)))
+    pick (eqb n 0) (Some Off)
+    (pick (eqb n 1) (Some Local)
+    (pick (eqb n 2) (Some Forward)
+    (pick (eqb n 3) (Some Global)
+    None)))
 
 -- The number and the row of each refusal. 1 rows, 2 limits, 3 names, "4 no entry or empty block; 9 lists disagree; 10 entry with predecessor, or several
 -- successors meeting several predecessors; 11 sole predecessor or idom not smaller; 12 not reached", 5 operands, 6 edits, 7 level or sweep flag, 8 output

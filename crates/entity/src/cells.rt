@@ -1,5 +1,6 @@
 // The cells of a row's fields: a number is itself, below `Number::LIMIT`; what has a mark is the mark and its number; a word is `Mark::WORD` and its
 // place among document 01's words. Which cell a field's bytes are is left to the crates above.
+// Stays: what is at rest in the sheet's table are numbers, and the theorems `rules::marks_agree` and `words_agree` name each of these constants.
 #[derive(Clone, Copy)]
 pub struct Number(pub u32);
 

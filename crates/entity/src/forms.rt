@@ -5,7 +5,7 @@ ghost use Rattle.entity.specs.Forms.{level_of, level_number, told_of, sum_of};
 
 use crate::numbers::{OperandIndex, PhysReg, RegClass, SpillSlot, Value, ValueGroup};
 
-#[derive(Clone, Copy)]
+#[derive(Clone, Copy, PartialEq, Eq)]
 pub enum Place {
     Reg(PhysReg),
     Slot(SpillSlot),
@@ -25,14 +25,14 @@ impl Place {
     }
 }
 
-#[derive(Clone, Copy)]
+#[derive(Clone, Copy, PartialEq, Eq)]
 pub enum Constraint {
     Class(RegClass),
     Fixed(PhysReg),
     Reuse(OperandIndex),
 }
 
-#[derive(Clone, Copy)]
+#[derive(Clone, Copy, PartialEq, Eq)]
 pub enum OperandKind {
     Def(Value),
     Use(Value),
@@ -44,7 +44,7 @@ pub enum OperandKind {
 }
 
 // `Misplaced` is an emergency edit whose places are not the register and the slot that it needs: refusal 6.
-#[derive(Clone, Copy)]
+#[derive(Clone, Copy, PartialEq, Eq)]
 pub enum Edit {
     Move {
         to: Place,
@@ -70,7 +70,7 @@ pub enum Edit {
     Nothing,
 }
 
-#[derive(Clone, Copy)]
+#[derive(Clone, Copy, PartialEq, Eq)]
 pub enum Level {
     Off,
     Local,
@@ -78,13 +78,8 @@ pub enum Level {
     Global,
 }
 
-#[derive(Clone, Copy)]
-pub enum FoundLevel {
-    At(Level),
-    Nothing,
-}
-
 impl Level {
+    // Stays: the numbers of the C call's level.
     pub const OFF: u32 = 0;
 
     pub const LOCAL: u32 = 1;
@@ -93,15 +88,15 @@ impl Level {
 
     pub const GLOBAL: u32 = 3;
 
-    pub fn of(n: u32) -> FoundLevel
+    pub fn of(n: u32) -> Option<Level>
         ensures { result ≡ level_of n }
     {
         match n {
-            Level::OFF => FoundLevel::At(Level::Off),
-            Level::LOCAL => FoundLevel::At(Level::Local),
-            Level::FORWARD => FoundLevel::At(Level::Forward),
-            Level::GLOBAL => FoundLevel::At(Level::Global),
-            _ => FoundLevel::Nothing,
+            Level::OFF => Some(Level::Off),
+            Level::LOCAL => Some(Level::Local),
+            Level::FORWARD => Some(Level::Forward),
+            Level::GLOBAL => Some(Level::Global),
+            _ => None,
         }
     }
 
@@ -119,7 +114,7 @@ impl Level {
 
 // What is wrong with a sheet or a call. A rule of one block has the `block` row of the lowest block that breaks it, counted from 1 over all rows of the
 // sheet: a sheet of 65,536 bytes has at most 21,845.
-#[derive(Clone, Copy)]
+#[derive(Clone, Copy, PartialEq, Eq)]
 pub enum Refusal {
     Rows,
     Limits,
@@ -137,7 +132,8 @@ pub enum Refusal {
 }
 
 // A refusal as it is told: its number and the row, 0 where no block is concerned.
-#[derive(Clone, Copy)]
+// Stays: a refusal as the C call tells it.
+#[derive(Clone, Copy, PartialEq, Eq)]
 pub struct Told {
     pub number: u8,
     pub row: u16,

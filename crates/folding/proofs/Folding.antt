@@ -15,8 +15,8 @@ use Rattle.laws.proofs.First.{first_found}
 use Rattle.entity.specs.Limits.{class_limit}
 use Rattle.entity.specs.declared.numbers.PhysReg.{PhysReg}
 use Rattle.entity.specs.declared.numbers.RegClass.{RegClass}
-use Rattle.entity.specs.declared.numbers.OperandIndex.{OperandIndex}
-use Rattle.entity.specs.declared.sets.FoundReg.{FoundReg}
+use Rattle.std.specs.Prelude.{Some, None}
+use Rattle.std.specs.Prelude as Code
 use Rattle.entity.specs.declared.forms.Place.{Place}
 use Rattle.entity.specs.declared.forms.Place.TheVariants.{Reg}
 use Rattle.entity.specs.declared.forms.Constraint.{Constraint}
@@ -37,7 +37,8 @@ use Rattle.table.specs.Written.{PlaceCell}
 use Rattle.table.proofs.Loops.{and_left, and_right, never, all_at}
 use Rattle.table.proofs.Stored.{places_length, places_at}
 use Rattle.table.proofs.Counted.{count_more}
-use Rattle.record.specs.Flat.{record_in}
+use Rattle.record.specs.Flat.{record_of}
+use Rattle.record.specs.declared.flat.WalkRecord.{WalkRecord}
 use Rattle.holders.specs.Holders.{allows, reg_found}
 use Rattle.moves.specs.Walks.{Walked}
 use Rattle.moves.proofs.Walks.{walked_fewer}
@@ -45,13 +46,18 @@ use Rattle.folding.specs.Folds.{may_fold}
 
 -- ---- the register that a row is folded to
 
-pub found_none : {x : Option ℕ} → x ≡ none → FoundReg.Nothing ≡ reg_found x
+pub found_none : {x : Option ℕ} → x ≡ none → None ≡ reg_found x
 unfolding reg_found
 found_none e = rw e
 
 -- by its constraint, if it may be folded and is not reused
 abbrev chosen : Sheet → Constraint → ℕ → Record → Option ℕ
 chosen sh c v s = elim c [ Class c ↦ lowest_holding sh (λ r. is_in r (class_row sh c.0).members) v s | Fixed r ↦ none | Reuse n ↦ none ]
+
+not_chosen : (sh : Sheet) (c : Constraint) (v : ℕ) (s : Record) → ((x : RegClass) → c ≡ Class x → ⊥) → chosen sh c v s ≡ none
+not_chosen sh (Class x) v s n = absurd (n x refl)
+not_chosen sh (Fixed r) v s n = refl
+not_chosen sh (Reuse k) v s n = refl
 
 module _ (sh : Sheet) (o : OpRow) (k : ℕ) (s : Record) where
   abbrev goes : Bool
@@ -72,11 +78,8 @@ module _ (sh : Sheet) (o : OpRow) (k : ℕ) (s : Record) where
   unfolding may_fold
   other_stays e = stays (rw e)
 
-  pub fixed_stays : {r : PhysReg} → o.constraint ≡ Fixed r → fold_to sh o k s ≡ none
-  fixed_stays e = by_bool goes (λ q. moves q ∙ rw e) stays
-
-  pub reuse_stays : {n : OperandIndex} → o.constraint ≡ Reuse n → fold_to sh o k s ≡ none
-  reuse_stays e = by_bool goes (λ q. moves q ∙ rw e) stays
+  pub other_class : {q : Constraint} → q ≡ o.constraint → ((c : RegClass) → q ≡ Class c → ⊥) → fold_to sh o k s ≡ none
+  other_class {q} e n = by_bool goes (λ g. moves g ∙ ap (λ (c : Constraint). chosen sh c (subject_of o.kind) s) (sym e) ∙ not_chosen sh q (subject_of o.kind) s n) stays
 
 first_same : {A : Type 0} (at : ℕ → A) (no' : A) (f g : ℕ → Bool) (i n : ℕ) → ((r : ℕ) → f r ≡ g r) → first at no' f i n ≡ first at no' g i n
 unfolding first
@@ -92,7 +95,7 @@ class_allows : (sh : Sheet) (c r : ℕ) → c < class_limit → allows sh c r �
 unfolding allows
 class_allows sh c r h = rw (ne_eqb c class_limit (λ e. omega arith))
 
-pub class_folds : (sh : Sheet) (o : OpRow) (k : ℕ) (s : Record) {c : RegClass} {f : FoundReg} {v : ℕ} → reused sh o.at k ≡ false → may_fold sh o ≡ true → o.constraint ≡ Class c
+pub class_folds : (sh : Sheet) (o : OpRow) (k : ℕ) (s : Record) {c : RegClass} {f : Code.Option PhysReg} {v : ℕ} → reused sh o.at k ≡ false → may_fold sh o ≡ true → o.constraint ≡ Class c
     → c.0 < class_limit → v ≡ subject_of o.kind → f ≡ reg_found (lowest_holding sh (allows sh c.0) v s) → f ≡ reg_found (fold_to sh o k s)
 unfolding may_fold
 class_folds sh o k s {c} {f} {v} t m q h e p =
@@ -173,34 +176,34 @@ pub fold_stays : (sh : Sheet) (w : Walk) (k n : ℕ) (o : OpRow) → fold_to sh 
 unfolding fold Option-elim
 fold_stays sh w k n o e = rw e
 
-found_is : {f : FoundReg} {x : Option ℕ} {r : PhysReg} → f ≡ reg_found x → f ≡ FoundReg.At r → x ≡ some r.0
+found_is : {f : Code.Option PhysReg} {x : Option ℕ} {r : PhysReg} → f ≡ reg_found x → f ≡ Some r → x ≡ some r.0
 unfolding reg_found
 found_is {x = none} e q = cc
 found_is {x = some y} {r} e q = let z : record { 0 = y } ≡ r = cc in ap (λ (x : PhysReg). some x.0) z
 
-not_found : {f : FoundReg} {x : Option ℕ} → f ≡ reg_found x → f ≡ FoundReg.Nothing → x ≡ none
+not_found : {f : Code.Option PhysReg} {x : Option ℕ} → f ≡ reg_found x → f ≡ None → x ≡ none
 unfolding reg_found
 not_found {x = none} e q = refl
 not_found {x = some y} e q = cc
 
-module _ {t rec edits places counts : List ℕ} {m : ℕ} (k n : ℕ) {w : Walk} {f : FoundReg} (x : Walked t rec edits places counts (m + 1) w)
-    (e : f ≡ reg_found (fold_to (sheet_in t) (op_row (sheet_in t) n) k (record_in rec))) where
-  pub not_folded : f ≡ FoundReg.Nothing → Walked t rec edits places counts m (fold (sheet_in t) w (k, n, op_row (sheet_in t) n))
+module _ {t : List ℕ} {rec : WalkRecord} {edits places counts : List ℕ} {m : ℕ} (k n : ℕ) {w : Walk} {f : Code.Option PhysReg} (x : Walked t rec edits places counts (m + 1) w)
+    (e : f ≡ reg_found (fold_to (sheet_in t) (op_row (sheet_in t) n) k (record_of rec))) where
+  pub not_folded : f ≡ None → Walked t rec edits places counts m (fold (sheet_in t) w (k, n, op_row (sheet_in t) n))
   not_folded q =
       let o : OpRow = op_row (sheet_in t) n in
       rw (fold_stays (sheet_in t) w k n o (ap (fold_to (sheet_in t) o k) x.is_rec ∙ not_found e q)) (walked_fewer _ (omega arith) x)
 
-  pub folded : {r : PhysReg} {p : Place} {c : ℕ} {places' counts' : List ℕ} → Ready t → f ≡ FoundReg.At r → p ≡ Reg r → (SmallPlace p → c ≡ place_cell p) → places' ≡ set places n c
+  pub folded : {r : PhysReg} {p : Place} {c : ℕ} {places' counts' : List ℕ} → Ready t → f ≡ Some r → p ≡ Reg r → (SmallPlace p → c ≡ place_cell p) → places' ≡ set places n c
       → (get_or counts 6 0 < 4294967295 → counts' ≡ count 6 counts) → Walked t rec edits places' counts' m (fold (sheet_in t) w (k, n, op_row (sheet_in t) n))
   unfolding fold Option-elim place_cell
   folded {r} {p} {c} {places'} {counts'} g q pr cell store up =
       let sh : Sheet = sheet_in t in
       let o : OpRow = op_row sh n in
       let d = x.cells in
-      let some-r : fold_to sh o k (record_in rec) ≡ some r.0 = found_is e q in
+      let some-r : fold_to sh o k (record_of rec) ≡ some r.0 = found_is e q in
       let here : fold_to sh o k w.rec ≡ some r.0 = ap (fold_to sh o k) x.is_rec ∙ some-r in
-      let small : r.0 < number_limit = omega (arith, fold_small sh o k (record_in rec) r.0 some-r, (in_limits sh g.limits).few_regs) in
-      let in-ops : n < length sh.ops = use_within sh n (fold_use sh o k (record_in rec) r.0 some-r) in
+      let small : r.0 < number_limit = omega (arith, fold_small sh o k (record_of rec) r.0 some-r, (in_limits sh g.limits).few_regs) in
+      let in-ops : n < length sh.ops = use_within sh n (fold_use sh o k (record_of rec) r.0 some-r) in
       let in-places : n < length places = omega (arith, d.place_room) in
       let cell_is : c ≡ reg_mark + r.0 = (rw pr at cell) small in
       let back : place_of c ≡ Reg r = ap place_of cell_is ∙ reg_back r small in
@@ -208,7 +211,6 @@ module _ {t rec edits places counts : List ℕ} {m : ℕ} (k n : ℕ) {w : Walk}
       let long' : length places' ≡ length places = ap length store ∙ length-set places n c in
       rw here
       record {
-        long = x.long;
         is_rec = x.is_rec;
         cells = record {
           edit_room = d.edit_room;

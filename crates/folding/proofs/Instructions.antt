@@ -18,6 +18,7 @@ use Rattle.entity.specs.declared.forms.Constraint.{Constraint}
 use Rattle.entity.specs.declared.forms.Constraint.TheVariants.{Class, Fixed, Reuse}
 use Rattle.rules.specs.Sheet.{Sheet, OpRow, is_early}
 use Rattle.rules.specs.Accept.{reuse_within, operands_at}
+use Rattle.rules.specs.Record.{Record}
 use Rattle.rules.specs.Forward.{Walk, early_defs, define_all, reused, indexed, fold}
 use Rattle.rules.proofs.Refusals.{in_limits}
 use Rattle.table.specs.Layout.{op_index}
@@ -26,7 +27,7 @@ use Rattle.table.specs.Index.{Ready, range_in}
 use Rattle.table.specs.View.{op_row}
 use Rattle.table.specs.declared.index.Range.{Range}
 use Rattle.table.proofs.Loops.{and_left, and_right}
-use Rattle.record.specs.Flat.{record_in, Becomes}
+use Rattle.record.specs.declared.flat.WalkRecord.{WalkRecord}
 use Rattle.holders.specs.Holders.{Filled}
 use Rattle.moves.specs.Walks.{Walked}
 use Rattle.moves.proofs.Walks.{walked_fewer}
@@ -47,7 +48,7 @@ or_right_false true b e = cc
 -- ---- the operands that are reused
 
 all_keep : {A : Type 0} (p q : A → Bool) (l : List A) → all p l ≡ true → all p (keep q l) ≡ true
-unfolding all keep
+unfolding keep
 all_keep p q [] e = refl
 all_keep p q (x ∷ l) e =
     let a = and_left (p x) (all p l) e in
@@ -55,7 +56,6 @@ all_keep p q (x ∷ l) e =
     by_bool (q x) (λ h. rw (h, a, b)) (λ h. rw (h, b))
 
 any_not : {A : Type 0} (p f : A → Bool) (l : List A) → ((x : A) → p x ≡ true → f x ≡ false) → all p l ≡ true → any f l ≡ false
-unfolding all any
 any_not p f [] h e = refl
 any_not p f (x ∷ l) h e = rw (h x (and_left (p x) (all p l) e), any_not p f l h (and_right (p x) (all p l) e))
 
@@ -115,19 +115,19 @@ rows_next t w a n h =
     let e : a + (n - a) ≡ n = omega arith in
     rw m (ap (run (fold (sheet_in t)) w) (map_more (row t a) a (n - a) ∙ rw e) ∙ run_end (fold (sheet_in t)) w (map (row t a) (from a (n - a))) (row t a n))
 
-abbrev pub Passed : List ℕ → List ℕ → List ℕ → List ℕ → List ℕ → List ℕ → List ℕ → NumberSet → Range → ℕ → Type 0
+abbrev pub Passed : List ℕ → WalkRecord → List ℕ → List ℕ → List ℕ → List ℕ → List ℕ → NumberSet → Range → ℕ → Type 0
 Passed t rec classes places counts places' counts' ties r n =
     Ready t → Filled (sheet_in t) classes → (i : ℕ) → r ≡ range_in t op_index inst_limit i → ties ≡ (told (sheet_in t) (ops_in (sheet_in t) r)).reused → (edits : List ℕ) (m b : ℕ) (w : Walk)
     → m + (n - r.from) ≡ b → Walked t rec edits places counts b w → Walked t rec edits places' counts' m (after_rows t w r.from n)
 
-pub rows_none : (t rec classes places counts : List ℕ) (ties : NumberSet) (r : Range) → Passed t rec classes places counts places counts ties r r.from
+pub rows_none : (t : List ℕ) (rec : WalkRecord) (classes places counts : List ℕ) (ties : NumberSet) (r : Range) → Passed t rec classes places counts places counts ties r r.from
 unfolding run from
 rows_none t rec classes places counts ties r g f i e q edits m b w h x =
     let z : r.from - r.from ≡ 0 = omega arith in
     let y : b ≡ m = omega arith in
     rw (z, ← y) x
 
-module _ {t rec classes places counts places₁ counts₁ : List ℕ} {ties : NumberSet} {r : Range} {n : ℕ} (p : Passed t rec classes places counts places₁ counts₁ ties r n) where
+module _ {t : List ℕ} {rec : WalkRecord} {classes places counts places₁ counts₁ : List ℕ} {ties : NumberSet} {r : Range} {n : ℕ} (p : Passed t rec classes places counts places₁ counts₁ ties r n) where
   pub rows_on : {places₂ counts₂ : List ℕ} {k : ℕ} {tied : Bool} → k ≡ n - r.from → tied ≡ has ties k
       → (Ready t → Filled (sheet_in t) classes → (edits : List ℕ) (m k : ℕ) (w : Walk) → tied ≡ reused (sheet_in t) (op_row (sheet_in t) n).at k → Walked t rec edits places₁ counts₁ (m + 1) w
       → Walked t rec edits places₂ counts₂ m (fold (sheet_in t) w (k, n, op_row (sheet_in t) n)))
@@ -147,7 +147,7 @@ module _ {t rec classes places counts places₁ counts₁ : List ℕ} {ties : Nu
 
 -- no row may be folded
 stays_on : (t : List ℕ) (a : ℕ) (w : Walk) (ns : List ℕ) → any (may_fold (sheet_in t)) (map (op_row (sheet_in t)) ns) ≡ false → run (fold (sheet_in t)) w (map (row t a) ns) ≡ w
-unfolding run any
+unfolding run
 stays_on t a w [] e = refl
 stays_on t a w (n ∷ ns) e =
     let sh : Sheet = sheet_in t in
@@ -156,7 +156,7 @@ stays_on t a w (n ∷ ns) e =
     (fold_stays sh w (n - a) n o (other_stays sh o (n - a) w.rec (or_left_false (may_fold sh o) (any (may_fold sh) (map (op_row sh) ns)) e)))
     ∙ stays_on t a w ns (or_right_false (may_fold sh o) (any (may_fold sh) (map (op_row sh) ns)) e)
 
-pub rows_stay : {t rec places counts : List ℕ} (classes : List ℕ) {r : Range} {x : Told} → not x.folds ≡ true → Ready t → Filled (sheet_in t) classes → (i : ℕ) → r ≡ range_in t op_index inst_limit i
+pub rows_stay : {t : List ℕ} {rec : WalkRecord} {places counts : List ℕ} (classes : List ℕ) {r : Range} {x : Told} → not x.folds ≡ true → Ready t → Filled (sheet_in t) classes → (i : ℕ) → r ≡ range_in t op_index inst_limit i
     → x ≡ told (sheet_in t) (ops_in (sheet_in t) r) → (edits : List ℕ) (m : ℕ) (w : Walk) → Walked t rec edits places counts (m + operand_limit) w
     → Walked t rec edits places counts m (run (fold (sheet_in t)) w (indexed (sheet_in t) i))
 unfolding told
@@ -168,16 +168,15 @@ rows_stay {t} classes {r} {x} h g f i e q edits m w y =
 
 -- no operand is an early definition
 none_early : (sh : Sheet) (os : List OpRow) → any (λ o. is_early o.kind) os ≡ false → flat_map (early_defs sh) os ≡ []
-unfolding any flat_map
+unfolding flat_map
 none_early sh [] e = refl
 none_early sh (o ∷ os) e =
     let rest : Bool = any (λ o. is_early o.kind) os in
     rw (or_left_false (is_early o.kind) rest e, none_early sh os (or_right_false (is_early o.kind) rest e))
 
-pub early_none : (sh : Sheet) (b : ℕ) (os : List OpRow) (rec : List ℕ) {x : Bool} → x ≡ false → x ≡ any (λ o. is_early o.kind) os
-    → Becomes rec rec (define_all sh b (flat_map (early_defs sh) os) (record_in rec))
+pub early_none : (sh : Sheet) (b : ℕ) (os : List OpRow) (s : Record) {x : Bool} → x ≡ false → x ≡ any (λ o. is_early o.kind) os → s ≡ define_all sh b (flat_map (early_defs sh) os) s
 unfolding define_all run
-early_none sh b os rec h e = rw (none_early sh os (sym e ∙ h)) (record { long = refl; is = refl })
+early_none sh b os s h e = rw (none_early sh os (sym e ∙ h))
 
 -- what is told of early definitions
 pub early_told : {t : List ℕ} → Ready t → (i : ℕ) {r : Range} {x : Told} → r ≡ range_in t op_index inst_limit i → x ≡ told (sheet_in t) (ops_in (sheet_in t) r)

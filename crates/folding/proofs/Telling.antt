@@ -1,5 +1,5 @@
 -- `tell`, `told_with` and `with_reuse` of src/lib.rt: what is told of an instruction's operands, row by row. Assumes nothing.
-use mathlib.Core.Path.{◌≡◌, sym, ap, ◌∙◌}
+use mathlib.Core.Path.{◌≡◌, refl, sym, ap, ◌∙◌}
 use mathlib.Core.Bool.{Bool, true, false, ◌||◌, or-false, or_assoc}
 use mathlib.Core.List.{List, [], ◌∷◌, ◌++◌, map, map-append}
 use Prim.Native.Nat.{ℕ, zero, suc, ◌+◌, ◌-◌, ◌≤◌}
@@ -13,7 +13,7 @@ use Rattle.bits.specs.declared.sets.NumberSet.{NumberSet}
 use Rattle.bits.proofs.Members.{has_set_of, set_of_same}
 use Rattle.entity.specs.declared.numbers.OperandIndex.{OperandIndex}
 use Rattle.entity.specs.declared.forms.Constraint.{Constraint}
-use Rattle.entity.specs.declared.forms.Constraint.TheVariants.{Reuse}
+use Rattle.entity.specs.declared.forms.Constraint.TheVariants.{Class, Fixed, Reuse}
 use Rattle.rules.specs.Sheet.{Sheet, OpRow, is_early}
 use Rattle.table.specs.View.{op_row}
 use Rattle.table.specs.declared.index.Range.{Range}
@@ -22,8 +22,13 @@ use Rattle.folding.specs.Folds.{reuses, may_fold, told, ops_in}
 
 -- ---- one row
 
-pub no_reuse : {s : NumberSet} (c : Constraint) → ((k : ℕ) → reuses k c ≡ false) → (p : ℕ → Bool) → s ≡ set_of p → s ≡ set_of (λ k. p k || reuses k c)
-no_reuse c h p e = e ∙ set_of_same p (λ k. p k || reuses k c) (λ k l. rw (h k) (sym (or-false (p k))))
+not_reused : (c : Constraint) → ((n : OperandIndex) → c ≡ Reuse n → ⊥) → (k : ℕ) → reuses k c ≡ false
+not_reused (Class n) h k = refl
+not_reused (Fixed r) h k = refl
+not_reused (Reuse n) h k = absurd (h n refl)
+
+pub no_reuse : {s : NumberSet} (c : Constraint) → ((n : OperandIndex) → c ≡ Reuse n → ⊥) → (p : ℕ → Bool) → s ≡ set_of p → s ≡ set_of (λ k. p k || reuses k c)
+no_reuse c h p e = e ∙ set_of_same p (λ k. p k || reuses k c) (λ k l. rw (not_reused c h k) (sym (or-false (p k))))
 
 pub one_reuse : (s : NumberSet) {x : NumberSet} {c : Constraint} {n : OperandIndex} → c ≡ Reuse n → x ≡ set_of (λ k. has s k || eqb k n.0) → (p : ℕ → Bool) → s ≡ set_of p → x ≡ set_of (λ k. p k || reuses k c)
 one_reuse s {x} {c} {n} q z p e =
@@ -32,7 +37,6 @@ one_reuse s {x} {c} {n} q z p e =
     (λ k l. rw (e, has_set_of p k l, q, eqb_same k n.0 n.0 k (λ u. sym u) (λ u. sym u)))
 
 any_more : {A : Type 0} (f : A → Bool) (l : List A) (x : A) → any f (l ++ (x ∷ [])) ≡ (any f l || f x)
-unfolding any
 any_more f [] x = or-false (f x)
 any_more f (y ∷ l) x = rw (any_more f l x) (sym (or_assoc (f y) (any f l) (f x)))
 
@@ -68,7 +72,7 @@ pub map_more : {A : Type 0} (f : ℕ → A) (a n : ℕ) → map f (from a (suc n
 map_more f a n = ap (map f) (from_more a n) ∙ map-append f (from a n) ((a + n) ∷ [])
 
 pub told_none : (sh : Sheet) (a : ℕ) {s : NumberSet} → s ≡ set_of (λ k. false) → record { reused = s; early = false; folds = false } ≡ told sh (map (op_row sh) (from a (a - a)))
-unfolding told from any
+unfolding told from
 told_none sh a e = let z : a - a ≡ 0 = omega arith in rw (z, e)
 
 pub told_next : (sh : Sheet) (a n : ℕ) {x y : Told} → a ≤ n → x ≡ told sh (map (op_row sh) (from a (n - a)))

@@ -14,21 +14,19 @@ ghost use Rattle.table.specs.Layout.{op_index};
 ghost use Rattle.table.specs.Sheet.{sheet_in};
 ghost use Rattle.table.specs.Index.{Ready, range_in};
 ghost use Rattle.table.specs.View.{op_row};
-ghost use Rattle.record.specs.Flat.{record_in, Long, Becomes};
+ghost use Rattle.record.specs.Flat.{record_of};
 ghost use Rattle.holders.specs.Holders.{Filled, reg_found};
 ghost use Rattle.moves.specs.Walks.{Walked};
 ghost use Rattle.folding.specs.Folds.{reuses, may_fold, told, ops_in};
 
-use bits::numbers::less;
 use bits::sets::NumberSet;
-use bits::tables::store_u32;
+use bits::tables::store;
 use definitions::{Pass, clobber, define_all};
 use entity::forms::{Constraint, OperandKind, Place};
-use entity::numbers::{Block, Inst, OperandRow, Value};
-use entity::sets::FoundReg;
+use entity::numbers::{Block, Inst, OperandRow, PhysReg, Value};
 use holders::{WORDS, in_memory, lowest_holding};
-use operands::{constraint_at, kind_at, place_at};
-use record::flat::LENGTH;
+use operands::{constraint_at, is_early, kind_at, place_at};
+use record::flat::WalkRecord;
 use table::counts::{Count, tally};
 use table::edits::place_cell;
 use table::index::{Range, op_rows};
@@ -45,38 +43,19 @@ fn with_reuse(s: NumberSet, c: Constraint) -> NumberSet
     ensures { (p : ℕ → Bool) → s ≡ set_of p → result ≡ set_of (λ k. p k || reuses k c) }
 {
     match c {
-        Constraint::Class(_) => s,
-        Constraint::Fixed(_) => s,
         Constraint::Reuse(k) => s.insert(k.0),
-    }
-}
-
-fn is_early(k: OperandKind) -> bool
-    ensures { result ≡ is_early k }
-{
-    match k {
-        OperandKind::EarlyDef(_) => true,
-        OperandKind::EarlyDefGroup(_) => true,
-        OperandKind::Def(_) => false,
-        OperandKind::Use(_) => false,
-        OperandKind::DefGroup(_) => false,
-        OperandKind::UseGroup(_) => false,
-        OperandKind::NonAllocatable => false,
+        _ => s,
     }
 }
 
 // Row n is a `use` in memory.
+#[tactic(auto, unfolding(crate::specs::Folds::may_fold, rules::specs::Sheet::is_use))]
 fn may_fold(t: &[u32], n: OperandRow, k: OperandKind) -> bool
     ensures { k ≡ (op_row (sheet_in t.now) n.0).kind → result ≡ may_fold (sheet_in t.now) (op_row (sheet_in t.now) n.0) }
 {
     match k {
         OperandKind::Use(_) => in_memory(t, place_at(t, n)),
-        OperandKind::EarlyDef(_) => false,
-        OperandKind::EarlyDefGroup(_) => false,
-        OperandKind::Def(_) => false,
-        OperandKind::DefGroup(_) => false,
-        OperandKind::UseGroup(_) => false,
-        OperandKind::NonAllocatable => false,
+        _ => false,
     }
 }
 
@@ -85,46 +64,37 @@ fn told_with(t: &[u32], past: Told, n: OperandRow) -> Told
     ensures { (os : List OpRow) → past ≡ told (sheet_in t.now) os → result ≡ told (sheet_in t.now) (os ++ (op_row (sheet_in t.now) n.0 ∷ [])) }
 {
     let k = kind_at(t, n);
-    let s = past.reused;
-    let reused = with_reuse(s, constraint_at(t, n));
-    let early = past.early || is_early(k);
-    let folds = past.folds || may_fold(t, n, k);
     Told {
-        reused,
-        early,
-        folds,
+        reused: with_reuse(past.reused, constraint_at(t, n)),
+        early: past.early || is_early(k),
+        folds: past.folds || may_fold(t, n, k),
     }
 }
 
 fn tell(t: &[u32], rows: Range) -> Told
     ensures { result ≡ told (sheet_in t.now) (ops_in (sheet_in t.now) rows) }
 {
-    let to = rows.to;
-    let reused = NumberSet::empty();
     let mut x = Told {
-        reused,
+        reused: NumberSet::empty(),
         early: false,
         folds: false,
     };
-    let mut n = rows.from;
-    while n < to {
+    for n in rows.from..rows.to {
         x = told_with(t, x, OperandRow(n));
-        n += 1;
     }
     x
 }
 
 // The subject of a kind; 0 where there is none.
+#[tactic(auto, unfolding(rules::specs::Sheet::subject_of))]
 fn value_of(k: OperandKind) -> Value
     ensures { result.0 ≡ subject_of k }
 {
     match k {
-        OperandKind::Def(v) => v,
-        OperandKind::Use(v) => v,
-        OperandKind::EarlyDef(v) => v,
-        OperandKind::DefGroup(g) => Value(g.0),
-        OperandKind::UseGroup(g) => Value(g.0),
-        OperandKind::EarlyDefGroup(g) => Value(g.0),
+        OperandKind::Def(v) | OperandKind::Use(v) | OperandKind::EarlyDef(v) => v,
+        OperandKind::DefGroup(g) | OperandKind::UseGroup(g) | OperandKind::EarlyDefGroup(g) => {
+            Value(g.0)
+        }
         OperandKind::NonAllocatable => Value(0),
     }
 }
@@ -132,33 +102,30 @@ fn value_of(k: OperandKind) -> Value
 // The register that row n is folded to: a `use` in memory, of class constraint and not reused.
 fn fold_to(
     t: &[u32],
-    rec: &[u32; LENGTH],
+    rec: &WalkRecord,
     classes: &[u64; WORDS],
     tied: bool,
     n: OperandRow,
-) -> FoundReg
-    ensures { Ready t.now → Long rec.now → Filled (sheet_in t.now) classes.now → (k : ℕ)
+) -> Option<PhysReg>
+    ensures { Ready t.now → Filled (sheet_in t.now) classes.now → (k : ℕ)
         → tied ≡ reused (sheet_in t.now) (op_row (sheet_in t.now) n.0).at k
-        → result ≡ reg_found (fold_to (sheet_in t.now) (op_row (sheet_in t.now) n.0) k (record_in rec.now)) }
+        → result ≡ reg_found (fold_to (sheet_in t.now) (op_row (sheet_in t.now) n.0) k (record_of rec.now)) }
 {
     let k = kind_at(t, n);
-    if tied {
-        return FoundReg::Nothing;
-    }
-    if !may_fold(t, n, k) {
-        return FoundReg::Nothing;
+    if tied || !may_fold(t, n, k) {
+        return None;
     }
     match constraint_at(t, n) {
         Constraint::Class(c) => lowest_holding(t, rec, classes, c, value_of(k)),
-        Constraint::Fixed(_) => FoundReg::Nothing,
-        Constraint::Reuse(_) => FoundReg::Nothing,
+        _ => None,
     }
 }
 
 // Row n is folded, if it can be.
+// Stays: the parameters one by one, here and below; a struct of all the tables would lend the edits, which no fold reads, and promise of each call that they stay: no plainer.
 fn fold(
     t: &[u32],
-    rec: &[u32; LENGTH],
+    rec: &WalkRecord,
     classes: &[u64; WORDS],
     places: &mut [u32],
     counts: &mut [u32],
@@ -171,18 +138,18 @@ fn fold(
         → Walked t.now rec.now edits places.new counts.new m (fold (sheet_in t.now) w (k, n.0, op_row (sheet_in t.now) n.0)) }
 {
     match fold_to(t, rec, classes, tied, n) {
-        FoundReg::At(r) => {
-            store_u32(places, n.0 as usize, place_cell(Place::reg(r)));
+        Some(r) => {
+            store(places, n.0 as usize, place_cell(Place::reg(r)));
             tally(counts, Count::STACK_USE);
         }
-        FoundReg::Nothing => {}
+        None => {}
     }
 }
 
 // The rows are folded, if one may be.
 fn fold_all(
     t: &[u32],
-    rec: &[u32; LENGTH],
+    rec: &WalkRecord,
     classes: &[u64; WORDS],
     places: &mut [u32],
     counts: &mut [u32],
@@ -199,20 +166,17 @@ fn fold_all(
         return;
     }
     let reused = x.reused;
-    let to = rows.to;
-    let mut n = rows.from;
-    while n < to {
-        let k = less(n, rows.from);
+    for n in rows.from..rows.to {
+        let k = n.saturating_sub(rows.from);
         let tied = reused.contains(k);
         fold(t, rec, classes, places, counts, tied, OperandRow(n));
-        n += 1;
     }
 }
 
 // The early definitions, if there are any.
-fn define_early(t: &[u32], rec: &mut [u32; LENGTH], b: Block, some: bool, i: Inst)
-    ensures { Ready t.now → some ≡ any (λ (o : OpRow). is_early o.kind) (operands_at (sheet_in t.now) i.0) → Long rec.old
-        → Becomes rec.old rec.new (define_all (sheet_in t.now) b.0 (flat_map (early_defs (sheet_in t.now)) (operands_at (sheet_in t.now) i.0)) (record_in rec.old)) }
+#[tactic(auto, unfolding(definitions::specs::Definitions::taken), using(crate::proofs::Instructions::early_none))]
+fn define_early(t: &[u32], rec: &mut WalkRecord, b: Block, some: bool, i: Inst)
+    ensures { Ready t.now → some ≡ any (λ (o : OpRow). is_early o.kind) (operands_at (sheet_in t.now) i.0) → record_of rec.new ≡ define_all (sheet_in t.now) b.0 (flat_map (early_defs (sheet_in t.now)) (operands_at (sheet_in t.now) i.0)) (record_of rec.old) }
 {
     if some {
         define_all(t, rec, b, Pass::Early, i);
@@ -222,7 +186,7 @@ fn define_early(t: &[u32], rec: &mut [u32; LENGTH], b: Block, some: bool, i: Ins
 // Early definitions come first, then folding, then the others.
 pub fn optimise_inst(
     t: &[u32],
-    rec: &mut [u32; LENGTH],
+    rec: &mut WalkRecord,
     classes: &[u64; WORDS],
     places: &mut [u32],
     counts: &mut [u32],
@@ -242,8 +206,9 @@ pub fn optimise_inst(
 }
 
 // The definitions in row order.
-pub fn prepare_inst(t: &[u32], rec: &mut [u32; LENGTH], b: Block, i: Inst)
-    ensures { Ready t.now → Long rec.old → Becomes rec.old rec.new (prepare_inst (sheet_in t.now) b.0 (record_in rec.old) i.0) }
+#[tactic(auto, unfolding(rules::specs::Forward::prepare_inst, definitions::specs::Definitions::taken))]
+pub fn prepare_inst(t: &[u32], rec: &mut WalkRecord, b: Block, i: Inst)
+    ensures { Ready t.now → record_of rec.new ≡ prepare_inst (sheet_in t.now) b.0 (record_of rec.old) i.0 }
 {
     define_all(t, rec, b, Pass::All, i);
     clobber(t, rec, i);

@@ -7,23 +7,24 @@ use native.Mathlib.Omega.{arith}
 use lib.Dec.{eqb, ltb}
 use borrow.Author.Tests.{lt-ltb, le-ltb, eq-eqb, ne_eqb}
 use Rattle.laws.proofs.Cases.{by_lt, by_eq}
-use Rattle.entity.specs.declared.sets.FoundBlock.{FoundBlock}
-use Rattle.entity.specs.declared.sets.FoundBlock.TheVariants.{At, Nothing}
+use Rattle.std.specs.Prelude.{Some, None}
+use Rattle.std.specs.Prelude as Code
+use Rattle.entity.specs.declared.numbers.Block.{Block}
 use Rattle.rules.specs.Sheet.{Sheet, block_row}
 use Rattle.rules.specs.Forward.{climbs, dominates}
 use Rattle.table.specs.View.{block_found}
 
-abbrev number_of : FoundBlock → ℕ
-number_of (At b) = b.0
-number_of Nothing = 0
+abbrev number_of : Code.Option Block → ℕ
+number_of (Some b) = b.0
+number_of None = 0
 
 -- an idom by the code's answer
-pub found : (o : Option ℕ) (i : ℕ) → At (record { 0 = i }) ≡ block_found o → o ≡ some i
+pub found : (o : Option ℕ) (i : ℕ) → Some (record { 0 = i }) ≡ block_found o → o ≡ some i
 unfolding block_found
 found none i q = absurd (let z : ◌≡◌ {A = ℕ} 0 1 = cc in omega arith)
 found (some j) i q = ap some (sym (ap number_of q))
 
-pub lost : (o : Option ℕ) → Nothing ≡ block_found o → o ≡ none
+pub lost : (o : Option ℕ) → None ≡ block_found o → o ≡ none
 unfolding block_found
 lost none q = refl
 lost (some j) q = absurd (let z : ◌≡◌ {A = ℕ} 0 1 = cc in omega arith)
@@ -68,15 +69,15 @@ module _ (sh : Sheet) (a : ℕ) where
   unfolding dominates
   dominates_low b h = by_eq a b (λ e. eq-eqb a b e ∙ sym (dominates_step b ∙ rw (eq-eqb a b e))) (λ d. ne_eqb a b d ∙ sym (climbs_below b b (omega arith)))
 
-  module _ (b : ℕ) (h₀ : a < b) {f : FoundBlock} (e : f ≡ block_found (block_row sh b).idom) where
-    pub dominates_top : f ≡ Nothing → false ≡ dominates sh a b
+  module _ (b : ℕ) (h₀ : a < b) {f : Code.Option Block} (e : f ≡ block_found (block_row sh b).idom) where
+    pub dominates_top : f ≡ None → false ≡ dominates sh a b
     unfolding Option-elim
     dominates_top q = sym (dominates_step b ∙ rw (ne_eqb a b (λ e'. omega arith), lost (block_row sh b).idom (sym q ∙ e)))
 
-    pub dominates_up : (i : ℕ) → f ≡ At (record { 0 = i }) → i < b → dominates sh a i ≡ dominates sh a b
+    pub dominates_up : (i : ℕ) → f ≡ Some (record { 0 = i }) → i < b → dominates sh a i ≡ dominates sh a b
     unfolding Option-elim
     dominates_up i q h = sym (dominates_step b ∙ rw (ne_eqb a b (λ e'. omega arith), found (block_row sh b).idom i (sym q ∙ e), lt-ltb i b h))
 
-    pub dominates_no : (i : ℕ) → f ≡ At (record { 0 = i }) → b ≤ i → false ≡ dominates sh a b
+    pub dominates_no : (i : ℕ) → f ≡ Some (record { 0 = i }) → b ≤ i → false ≡ dominates sh a b
     unfolding Option-elim
     dominates_no i q h = sym (dominates_step b ∙ rw (ne_eqb a b (λ e'. omega arith), found (block_row sh b).idom i (sym q ∙ e), le-ltb i b h))

@@ -8,8 +8,10 @@ use Prim.Native.Nat.{ℕ, zero, suc, ◌+◌, ◌*◌, ◌≤◌, ◌<◌}
 use native.Mathlib.Numerals.{add-one}
 use native.Mathlib.Omega.{arith}
 use lib.Dec.{eqb, leb, ltb}
-use lib.ListN.{length, get_or, take, set, length-set, get_or-eq_default}
-use lib.Seq.{take_all, get_or-set_same, get_or-set_other}
+use lib.ListN.{length, get_or, take, get_or-eq_default}
+use borrow.Rule.Slice.PartMut.{put_mid}
+use Rattle.laws.specs.Spans.{Span}
+use Rattle.record.proofs.Parts.{span_put}
 use borrow.Author.Tests.{le-leb, lt-leb, lt-ltb, le-ltb, eq-eqb, ne_eqb}
 use Rattle.laws.specs.First.{first}
 use Rattle.laws.specs.Lists.{any, is_in, from}
@@ -24,22 +26,18 @@ use Rattle.bits.specs.Sets.{has, made, set_of, set_limit}
 use Rattle.bits.specs.declared.sets.NumberSet.{NumberSet}
 use Rattle.bits.proofs.Members.{has_set_of, set_of_same}
 use Rattle.entity.specs.Limits.{reg_limit, class_limit}
-use Rattle.entity.specs.declared.forms.Place.{Place}
 use Rattle.entity.specs.declared.numbers.PhysReg.{PhysReg}
-use Rattle.entity.specs.declared.numbers.SpillSlot.{SpillSlot}
-use Rattle.entity.specs.declared.sets.FoundReg.{FoundReg}
+use Rattle.std.specs.Prelude.{Some, None}
+use Rattle.std.specs.Prelude as Code
 use Rattle.rules.specs.Sheet.{Sheet, reg_count, class_row, is_memory}
-use Rattle.rules.specs.Record.{holds}
-use Rattle.rules.specs.Forward.{in_memory, lowest_holding}
+use Rattle.rules.specs.Record.{Record, holds}
+use Rattle.rules.specs.Forward.{lowest_holding}
 use Rattle.rules.proofs.Refusals.{in_limits}
 use Rattle.table.specs.Rows.{count_in}
 use Rattle.table.specs.Sheet.{sheet_in}
 use Rattle.table.specs.Index.{Ready}
 use Rattle.table.proofs.Sheets.{long_of, regs_are, classes_are}
-use Rattle.record.specs.Flat.{record_in, Long}
 use Rattle.holders.specs.Holders.{allows, set_at, Puts, Filled, Blank, reg_found}
-
--- ---- what 2 tells
 
 -- ---- a turn of a loop that adds r where a test says so
 
@@ -58,9 +56,6 @@ module _ {s : NumberSet} {b : Bool} (r : ℕ) where
 
 -- the numbers below n that pass g
 module _ (g : ℕ → Bool) where
-  pub below_none : {s : NumberSet} → s ≡ set_of (λ k. false) → s ≡ set_of (λ k. ltb k 0 && g k)
-  below_none e = e ∙ set_of_same (λ k. false) (λ k. ltb k 0 && g k) (λ k h. rw (le-ltb k 0 (omega arith)))
-
   pub below_next : (r : ℕ) {s : NumberSet} → s ≡ set_of (λ k. (ltb k r && g k) || (eqb k r && g r)) → s ≡ set_of (λ k. ltb k (r + 1) && g k)
   below_next r e =
       e
@@ -78,14 +73,14 @@ module _ (g : ℕ → Bool) where
 
 -- those of a list that pass g
 in_more : (x : ℕ) (l : List ℕ) (k : ℕ) → k < length l → is_in x (take (suc k) l) ≡ (is_in x (take k l) || eqb x (get_or l k 0))
-unfolding is_in any
+unfolding is_in
 in_more x [] k h = absurd (omega arith)
 in_more x (y ∷ l) zero h = or-false (eqb x y)
 in_more x (y ∷ l) (suc k) h = rw (in_more x l k (omega arith)) (sym (or_assoc (eqb x y) (any (eqb x) (take k l)) (eqb x (get_or l k 0))))
 
 module _ (g : ℕ → Bool) (l : List ℕ) where
   pub list_none : {s : NumberSet} → s ≡ set_of (λ k. false) → s ≡ set_of (λ k. is_in k (take 0 l) && g k)
-  unfolding is_in any
+  unfolding is_in
   list_none e = e
 
   pub list_next : (i : ℕ) {s : NumberSet} → i < length l → s ≡ set_of (λ k. (is_in k (take i l) && g k) || (eqb k (get_or l i 0) && g (get_or l i 0))) → s ≡ set_of (λ k. is_in k (take (i + 1) l) && g k)
@@ -103,9 +98,6 @@ module _ (g : ℕ → Bool) (l : List ℕ) where
       either true false = refl
       either false b = refl
 
-  pub list_end : (i : ℕ) {s : NumberSet} → length l ≤ i → s ≡ set_of (λ k. is_in k (take i l) && g k) → s ≡ set_of (λ k. is_in k l && g k)
-  list_end i h e = rw (take_all i l h) at e
-
 -- ---- the words of a set, put and taken
 
 four : (ws : List ℕ) → length ws ≡ 4 → (get_or ws 0 0 ∷ get_or ws 1 0 ∷ get_or ws 2 0 ∷ get_or ws 3 0 ∷ []) ≡ ws
@@ -116,67 +108,24 @@ four (a ∷ b ∷ c ∷ []) m = absurd (omega arith)
 four (a ∷ b ∷ c ∷ d ∷ []) m = refl
 four (a ∷ b ∷ c ∷ d ∷ e ∷ l) m = absurd (omega arith)
 
-module _ (a : List ℕ) (c w0 w1 w2 w3 : ℕ) where
-  abbrev s1 : List ℕ
-  s1 = set a (c * 4) w0
-
-  abbrev s2 : List ℕ
-  s2 = set s1 (c * 4 + 1) w1
-
-  abbrev s3 : List ℕ
-  s3 = set s2 (c * 4 + 2) w2
-
-  abbrev s4 : List ℕ
-  s4 = set s3 (c * 4 + 3) w3
-
-  kept : (k : ℕ) → (k ≡ c * 4 → ⊥) → (k ≡ c * 4 + 1 → ⊥) → (k ≡ c * 4 + 2 → ⊥) → (k ≡ c * 4 + 3 → ⊥) → get_or s4 k 0 ≡ get_or a k 0
-  kept k e0 e1 e2 e3 = get_or-set_other s3 (c * 4 + 3) k w3 0 e3 ∙ get_or-set_other s2 (c * 4 + 2) k w2 0 e2 ∙ get_or-set_other s1 (c * 4 + 1) k w1 0 e1 ∙ get_or-set_other a (c * 4) k w0 0 e0
-
-  word0 : c * 4 + 4 ≤ length a → get_or s4 (c * 4) 0 ≡ w0
-  word0 room = get_or-set_other s3 (c * 4 + 3) (c * 4) w3 0 (λ e. omega arith) ∙ get_or-set_other s2 (c * 4 + 2) (c * 4) w2 0 (λ e. omega arith) ∙ get_or-set_other s1 (c * 4 + 1) (c * 4) w1 0 (λ e. omega arith) ∙ get_or-set_same a (c * 4) w0 0 (omega arith)
-
-  word1 : c * 4 + 4 ≤ length a → get_or s4 (c * 4 + 1) 0 ≡ w1
-  word1 room = get_or-set_other s3 (c * 4 + 3) (c * 4 + 1) w3 0 (λ e. omega arith) ∙ get_or-set_other s2 (c * 4 + 2) (c * 4 + 1) w2 0 (λ e. omega arith) ∙ get_or-set_same s1 (c * 4 + 1) w1 0 (simp length-set (omega arith))
-
-  word2 : c * 4 + 4 ≤ length a → get_or s4 (c * 4 + 2) 0 ≡ w2
-  word2 room = get_or-set_other s3 (c * 4 + 3) (c * 4 + 2) w3 0 (λ e. omega arith) ∙ get_or-set_same s2 (c * 4 + 2) w2 0 (simp length-set (omega arith))
-
-  word3 : c * 4 + 4 ≤ length a → get_or s4 (c * 4 + 3) 0 ≡ w3
-  word3 room = get_or-set_same s3 (c * 4 + 3) w3 0 (simp length-set (omega arith))
-
-  put_four : c * 4 + 4 ≤ length a → (d : ℕ) → set_at s4 d ≡ cond (eqb d c) (made (w0 ∷ w1 ∷ w2 ∷ w3 ∷ [])) (set_at a d)
-  put_four room d =
-      by_eq d c (λ q. rw (q, eq-eqb c c refl, word0 room, word1 room, word2 room, word3 room))
-      (λ n. rw (ne_eqb d c n, kept (d * 4) (λ e. omega arith) (λ e. omega arith) (λ e. omega arith) (λ e. omega arith), kept (d * 4 + 1) (λ e. omega arith) (λ e. omega arith) (λ e. omega arith) (λ e. omega arith), kept (d * 4 + 2) (λ e. omega arith) (λ e. omega arith) (λ e. omega arith) (λ e. omega arith), kept (d * 4 + 3) (λ e. omega arith) (λ e. omega arith) (λ e. omega arith) (λ e. omega arith)))
-
 -- the four words of a set are stored at place c
-pub put_is : (a ws : List ℕ) (c : ℕ) → length ws ≡ 4 → 68 ≤ length a → c ≤ class_limit → Puts a (s4 a c (get_or ws 0 0) (get_or ws 1 0) (get_or ws 2 0) (get_or ws 3 0)) c (made ws)
-put_is a ws c m room h =
+put_four : (a ws : List ℕ) (c n : ℕ) → n ≡ 4 → length ws ≡ 4 → 68 ≤ length a → c ≤ class_limit → Puts a (put_mid (c * 4) n a ws) c (made ws)
+put_four a ws c n e m room h =
+    let b = put_mid (c * 4) n a ws in
+    let p : Span (c * 4) (λ j. get_or ws j 0) a 4 b = span_put (c * 4) (λ j. get_or ws j 0) a ws 4 e (omega arith) m (λ j u. refl) in
+    let kept : (d i : ℕ) → (d ≡ c → ⊥) → i < 4 → get_or b (d * 4 + i) 0 ≡ get_or a (d * 4 + i) 0
+    = λ d i z u. by_lt d c (λ l. p.before (d * 4 + i) (omega arith)) (λ l. p.behind (d * 4 + i) (omega arith)) in
+    let first : (d : ℕ) → d * 4 + 0 ≡ d * 4 = λ d. omega arith in
     record {
-      long = simp length-set;
-      are = λ d. put_four a c _ _ _ _ (omega arith) d ∙ ap (λ (l : List ℕ). cond (eqb d c) (made l) (set_at a d)) (four ws m);
+      long = p.long;
+      are = λ d.
+          by_eq d c
+          (λ q. rw (q, eq-eqb c c refl, rw (first c) at (p.done 0 (omega arith)), p.done 1 (omega arith), p.done 2 (omega arith), p.done 3 (omega arith), four ws m))
+          (λ z. rw (ne_eqb d c z, rw (first d) at (kept d 0 z (omega arith)), kept d 1 z (omega arith), kept d 2 z (omega arith), kept d 3 z (omega arith)));
     }
 
-pub put_past : {A B : Type 0} (c : ℕ) → class_limit < c → A → c ≤ class_limit → B
-put_past c h x l = absurd (omega arith)
-
-module _ (classes : List ℕ) (c : ℕ) where
-  pub taken_is : c ≤ class_limit → set_at classes c ≡ cond (leb c class_limit) (set_at classes c) (set_of (λ k. false))
-  taken_is h = rw (le-leb c class_limit h)
-
-  pub taken_none : {x : NumberSet} → class_limit < c → x ≡ set_of (λ k. false) → x ≡ cond (leb c class_limit) (set_at classes c) (set_of (λ k. false))
-  taken_none h e = rw (lt-leb c class_limit h) e
-
--- ---- a place in memory
-
-module _ (sh : Sheet) {p : Place} where
-  pub reg_in : (r : PhysReg) {x : Bool} → p ≡ Place.Reg r → x ≡ is_memory sh r.0 → x ≡ in_memory sh p
-  unfolding in_memory
-  reg_in r q e = rw q e
-
-  pub slot_in : (s : SpillSlot) → p ≡ Place.Slot s → true ≡ in_memory sh p
-  unfolding in_memory
-  slot_in s q = rw q
+pub put_is : (a ws : List ℕ) (c : ℕ) {n : ℕ} {ys : List ℕ} → n ≡ 4 → ys ≡ ws → length ws ≡ 4 → 68 ≤ length a → c ≤ class_limit → Puts a (put_mid (c * 4) n a ys) c (made ws)
+put_is a ws c {n} {ys} e q m room h = rw q (put_four a ws c n e m room h)
 
 -- ---- the sets of the classes
 
@@ -231,7 +180,7 @@ module _ (t : List ℕ) (g : Ready t) {a b : List ℕ} {s : NumberSet} where
 
 -- a class that is not there has no registers
 absent : (sh : Sheet) (c r : ℕ) → length sh.classes ≤ c → (c ≡ class_limit → ⊥) → allows sh c r ≡ false
-unfolding allows is_in any
+unfolding allows is_in
 absent sh c r h n = rw (ne_eqb c class_limit n, get_or-eq_default sh.classes (record { slots = false; members = [] }) h)
 
 pub fill_end : (t : List ℕ) (m n : ℕ) {a : List ℕ} → n ≡ count_in t 2 → n ≤ m → Filling (sheet_in t) m a → Filled (sheet_in t) a
@@ -268,9 +217,6 @@ module _ (g : ℕ → Bool) where
   pub some_next : (r : ℕ) {x y : Bool} → x ≡ some_below g r → y ≡ g r → (x || y) ≡ some_below g (r + 1)
   some_next r p q = rw (p, q, add-one r) (sym (more r))
 
-  pub some_end : (r : ℕ) {x : Bool} → r ≤ reg_limit → reg_limit ≤ r → x ≡ some_below g r → x ≡ some_below g reg_limit
-  some_end r l u p = let z : r ≡ reg_limit = omega arith in p ∙ ap (some_below g) z
-
   none_below : (n : ℕ) → some_below g n ≡ false → (k : ℕ) → k < n → g k ≡ false
   none_below zero e k h = absurd (omega arith)
   none_below (suc n) e k h =
@@ -298,39 +244,39 @@ in_class_lem t classes c e g f r h =
     rw (e, lt-leb c class_limit l, has_set_of (λ k. false) r u, absent sh c r (omega (arith, (in_limits sh g.limits).few_classes)) (λ q. omega arith)))
     (λ l. rw (e, le-leb c class_limit l) (f.are c r l h))
 
-pub lowest_is : (t rec classes : List ℕ) (c v : ℕ) {s x m : NumberSet} {f : FoundReg} → (Long rec → s ≡ set_of (λ r. ltb r (reg_count (sheet_in t)) && holds (record_in rec) r v))
+pub lowest_is : (t : List ℕ) (rec : Record) (classes : List ℕ) (c v : ℕ) {s x m : NumberSet} {f : Code.Option PhysReg} → s ≡ set_of (λ r. ltb r (reg_count (sheet_in t)) && holds rec r v)
     → x ≡ cond (leb c class_limit) (set_at classes c) (set_of (λ k. false)) → m ≡ set_of (λ k. has s k && has x k)
-    → f ≡ first (λ k. FoundReg.At (record { 0 = k })) FoundReg.Nothing (has m) 0 set_limit
-    → Ready t → Long rec → Filled (sheet_in t) classes → f ≡ reg_found (lowest_holding (sheet_in t) (allows (sheet_in t) c) v (record_in rec))
+    → f ≡ first (λ k. Some (record { 0 = k })) None (has m) 0 set_limit
+    → Ready t → Filled (sheet_in t) classes → f ≡ reg_found (lowest_holding (sheet_in t) (allows (sheet_in t) c) v rec)
 unfolding reg_found lowest_holding
-lowest_is t rec classes c v {s} {x} {m} p e q z g l f =
+lowest_is t rec classes c v {s} {x} {m} p e q z g f =
     let sh = sheet_in t in
     let n : reg_count sh ≤ reg_limit = (in_limits sh g.limits).few_regs in
-    let both : (k : ℕ) → k < set_limit → has m k ≡ ((ltb k (reg_count sh) && holds (record_in rec) k v) && has x k) =
-    λ k u. rw (q, has_set_of (λ k. has s k && has x k) k u, p l, has_set_of (λ r. ltb r (reg_count sh) && holds (record_in rec) r v) k u)
+    let both : (k : ℕ) → k < set_limit → has m k ≡ ((ltb k (reg_count sh) && holds rec k v) && has x k) =
+    λ k u. rw (q, has_set_of (λ k. has s k && has x k) k u, p, has_set_of (λ r. ltb r (reg_count sh) && holds rec r v) k u)
     in
     z
-    ∙ first_wide (λ k. FoundReg.At (record { 0 = k })) FoundReg.Nothing (has m) (λ r. allows sh c r && not (is_memory sh r) && holds (record_in rec) r v) 0 (reg_count sh) set_limit (omega arith)
+    ∙ first_wide (λ k. Some (record { 0 = k })) None (has m) (λ r. allows sh c r && not (is_memory sh r) && holds rec r v) 0 (reg_count sh) set_limit (omega arith)
     (λ k i h.
     both k (omega arith)
-    ∙ rw (lt-ltb k (reg_count sh) (omega arith), in_class_lem t classes c e g f k (omega arith)) (and_comm (holds (record_in rec) k v) (allows sh c k && not (is_memory sh k))))
+    ∙ rw (lt-ltb k (reg_count sh) (omega arith), in_class_lem t classes c e g f k (omega arith)) (and_comm (holds rec k v) (allows sh c k && not (is_memory sh k))))
     (λ k i h. both k (omega arith) ∙ rw (le-ltb k (reg_count sh) (omega arith)))
-    ∙ sym (first_map reg_found some none (λ r. allows sh c r && not (is_memory sh r) && holds (record_in rec) r v) 0 (reg_count sh))
+    ∙ sym (first_map reg_found some none (λ r. allows sh c r && not (is_memory sh r) && holds rec r v) 0 (reg_count sh))
 
-module _ (t rec classes : List ℕ) (c v : ℕ) where
+module _ (t : List ℕ) (rec : Record) (classes : List ℕ) (c v : ℕ) where
   abbrev test : ℕ → Bool
-  test r = allows (sheet_in t) c r && not (is_memory (sheet_in t) r) && holds (record_in rec) r v
+  test r = allows (sheet_in t) c r && not (is_memory (sheet_in t) r) && holds rec r v
 
-  abbrev Is : FoundReg → Type 0
-  Is f = Ready t → Long rec → Filled (sheet_in t) classes → f ≡ reg_found (lowest_holding (sheet_in t) (allows (sheet_in t) c) v (record_in rec))
+  abbrev Is : Code.Option PhysReg → Type 0
+  Is f = Ready t → Filled (sheet_in t) classes → f ≡ reg_found (lowest_holding (sheet_in t) (allows (sheet_in t) c) v rec)
 
-  is_none : ((k : ℕ) → k < reg_count (sheet_in t) → test k ≡ false) → FoundReg.Nothing ≡ reg_found (lowest_holding (sheet_in t) (allows (sheet_in t) c) v (record_in rec))
+  is_none : ((k : ℕ) → k < reg_count (sheet_in t) → test k ≡ false) → None ≡ reg_found (lowest_holding (sheet_in t) (allows (sheet_in t) c) v rec)
   unfolding reg_found lowest_holding
   is_none h = ap reg_found (sym (first_none some none test 0 (reg_count (sheet_in t)) (λ k p q. h k (omega arith))))
 
   -- no register holds v
-  pub held_nowhere : {b : Bool} → (Long rec → b ≡ some_below (λ r. holds (record_in rec) r v) reg_limit) → b ≡ false → Is FoundReg.Nothing
-  held_nowhere p e g l f =
+  pub held_nowhere : {b : Bool} → b ≡ some_below (λ r. holds rec r v) reg_limit → b ≡ false → Is None
+  held_nowhere p e g f =
       is_none (λ k h.
-      let z : holds (record_in rec) k v ≡ false = none_below (λ r. holds (record_in rec) r v) reg_limit (sym (p l) ∙ e) k (omega (arith, (in_limits (sheet_in t) g.limits).few_regs)) in
+      let z : holds rec k v ≡ false = none_below (λ r. holds rec r v) reg_limit (sym p ∙ e) k (omega (arith, (in_limits (sheet_in t) g.limits).few_regs)) in
       rw z (and-false (allows (sheet_in t) c k && not (is_memory (sheet_in t) k))))

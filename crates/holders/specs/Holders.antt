@@ -5,7 +5,9 @@ use Rattle.laws.specs.Lists.{is_in}
 use Rattle.bits.specs.Sets.{made, has}
 use Rattle.bits.specs.declared.sets.NumberSet.{NumberSet}
 use Rattle.entity.specs.Limits.{class_limit}
-use Rattle.entity.specs.declared.sets.FoundReg.{FoundReg}
+use Rattle.std.specs.Prelude.{Some, None}
+use Rattle.std.specs.Prelude as Code
+use Rattle.entity.specs.declared.numbers.PhysReg.{PhysReg}
 use Rattle.rules.specs.Sheet.{Sheet, reg_count, class_row, is_memory}
 
 -- register r is one of class c; after the last class stand all registers
@@ -31,6 +33,6 @@ pub record Blank (classes : List ℕ) : Type 0 where
   pub zeros : (k : ℕ) → get_or classes k 0 ≡ 0
 
 -- a number that may be absent, as the register that it names
-unfoldable pub reg_found : Option ℕ → FoundReg
-reg_found none = FoundReg.Nothing
-reg_found (some r) = FoundReg.At (record { 0 = r })
+unfoldable pub reg_found : Option ℕ → Code.Option PhysReg
+reg_found none = None
+reg_found (some r) = Some (record { 0 = r })

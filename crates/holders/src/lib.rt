@@ -11,19 +11,19 @@ ghost use Rattle.rules.specs.Record as Rule;
 ghost use Rattle.rules.specs.Forward.{in_memory, lowest_holding};
 ghost use Rattle.table.specs.Sheet.{sheet_in};
 ghost use Rattle.table.specs.Index.{Ready};
-ghost use Rattle.record.specs.Flat.{record_in, Long};
+ghost use Rattle.record.specs.Flat.{record_of};
 ghost use Rattle.holders.specs.Holders.{allows, set_at, Puts, Filled, Blank, reg_found};
 
 use bits::sets::NumberSet;
 use entity::forms::Place;
 use entity::numbers::{PhysReg, RegClass, Value};
-use entity::sets::{FoundReg, PhysRegSet};
-use record::flat::LENGTH;
-use record::steps::holds;
+use entity::sets::PhysRegSet;
+use record::flat::WalkRecord;
 use table::rows::{Kind, count};
 use table::view::{is_memory, members};
 
 // The non-memory registers of each class, and after the last class all of them: the words of a set each.
+// Stays: a flat table of numbers (document 01), its layout named once; `fill` and `lowest_holding` are public and promise for every table.
 pub const WORDS: usize = (RegClass::LIMIT as usize + 1) * NumberSet::WORDS;
 
 // The place of all registers among the classes.
@@ -34,12 +34,7 @@ fn put_set(classes: &mut [u64; WORDS], c: RegClass, s: PhysRegSet)
 {
     if c.0 <= RegClass::LIMIT {
         let at = c.0 as usize * NumberSet::WORDS;
-        let set = s.0;
-        let ws = set.words;
-        classes[at] = ws[0];
-        classes[at + 1] = ws[1];
-        classes[at + 2] = ws[2];
-        classes[at + 3] = ws[3];
+        classes[at..at + NumberSet::WORDS].copy_from_slice(&s.0.words);
     }
 }
 
@@ -48,15 +43,12 @@ fn class_set(classes: &[u64; WORDS], c: RegClass) -> PhysRegSet
 {
     if c.0 <= RegClass::LIMIT {
         let at = c.0 as usize * NumberSet::WORDS;
-        let words = [
-            classes[at],
-            classes[at + 1],
-            classes[at + 2],
-            classes[at + 3],
-        ];
-        return PhysRegSet(NumberSet { words });
+        let mut words = [0; NumberSet::WORDS];
+        words.copy_from_slice(&classes[at..at + NumberSet::WORDS]);
+        PhysRegSet::of(NumberSet { words })
+    } else {
+        PhysRegSet::empty()
     }
-    PhysRegSet::empty()
 }
 
 // The set with r, unless r is a memory register.
@@ -70,10 +62,22 @@ fn of_list(t: &[u32], rs: &[u32]) -> PhysRegSet
     ensures { result.0 ≡ set_of (λ r. is_in r rs.now && not (is_memory (sheet_in t.now) r)) }
 {
     let mut s = PhysRegSet::empty();
-    let mut k: usize = 0;
-    while k < rs.len() {
-        s = with_reg(t, s, PhysReg(rs[k]));
-        k += 1;
+    for r in rs {
+        s = with_reg(t, s, PhysReg(*r));
+    }
+    s
+}
+
+// The registers of which a test is true.
+fn regs_where<F: Fn(PhysReg) -> bool>(t: &[u32], test: F) -> PhysRegSet
+    requires { F.IsAlwaysCallable test }
+    ensures { (f : ℕ → Bool) → ((r : _) (b : Bool) → F.post test r b → b ≡ f r.0) → result.0 ≡ set_of (λ r. ltb r (reg_count (sheet_in t.now)) && f r) }
+{
+    let mut s = PhysRegSet::empty();
+    for r in 0..count(t, Kind::REG) {
+        if test(PhysReg(r)) {
+            s = s.insert(PhysReg(r));
+        }
     }
     s
 }
@@ -81,54 +85,34 @@ fn of_list(t: &[u32], rs: &[u32]) -> PhysRegSet
 fn of_all(t: &[u32]) -> PhysRegSet
     ensures { result.0 ≡ set_of (λ r. ltb r (reg_count (sheet_in t.now)) && not (is_memory (sheet_in t.now) r)) }
 {
-    let n = count(t, Kind::REG);
-    let mut s = PhysRegSet::empty();
-    let mut r: u32 = 0;
-    while r < n {
-        s = with_reg(t, s, PhysReg(r));
-        r += 1;
-    }
-    s
+    regs_where(t, |r| !is_memory(t, r))
 }
 
 // Fills the sets of the classes.
 pub fn fill(t: &[u32], classes: &mut [u64; WORDS])
     ensures { Ready t.now → Blank classes.old → Filled (sheet_in t.now) classes.new }
 {
-    let n = count(t, Kind::CLASS);
     put_set(classes, ALL, of_all(t));
-    let mut c: u32 = 0;
-    while c < n {
+    for c in 0..count(t, Kind::CLASS) {
         put_set(classes, RegClass(c), of_list(t, members(t, RegClass(c))));
-        c += 1;
     }
 }
 
 // The registers that hold v.
-fn holders(t: &[u32], rec: &[u32; LENGTH], v: Value) -> PhysRegSet
-    ensures { Long rec.now → result.0 ≡ set_of (λ r. ltb r (reg_count (sheet_in t.now)) && Rule.holds (record_in rec.now) r v.0) }
+fn holders(t: &[u32], rec: &WalkRecord, v: Value) -> PhysRegSet
+    ensures { result.0 ≡ set_of (λ r. ltb r (reg_count (sheet_in t.now)) && Rule.holds (record_of rec.now) r v.0) }
 {
-    let n = count(t, Kind::REG);
-    let mut s = PhysRegSet::empty();
-    let mut r: u32 = 0;
-    while r < n {
-        if holds(rec, PhysReg(r), v) {
-            s = s.insert(PhysReg(r));
-        }
-        r += 1;
-    }
-    s
+    regs_where(t, |r| rec.holds(r, v))
 }
 
 // Some register holds v. Asked of all registers: the compiler does it four at a time.
-fn somewhere(rec: &[u32; LENGTH], v: Value) -> bool
-    ensures { Long rec.now → result ≡ run (λ x r. x || Rule.holds (record_in rec.now) r v.0) false (from 0 reg_limit) }
+// Stays: `any` was tried; it stops at the first that holds v and asks one register at a time, and the whole call took 1% longer.
+fn somewhere(rec: &WalkRecord, v: Value) -> bool
+    ensures { result ≡ run (λ x r. x || Rule.holds (record_of rec.now) r v.0) false (from 0 reg_limit) }
 {
     let mut x = false;
-    let mut r: u32 = 0;
-    while r < PhysReg::LIMIT {
-        x = x | holds(rec, PhysReg(r), v);
-        r += 1;
+    for r in 0..PhysReg::LIMIT {
+        x |= rec.holds(PhysReg(r), v);
     }
     x
 }
@@ -136,22 +120,23 @@ fn somewhere(rec: &[u32; LENGTH], v: Value) -> bool
 // The lowest non-memory register of a class that holds v.
 pub fn lowest_holding(
     t: &[u32],
-    rec: &[u32; LENGTH],
+    rec: &WalkRecord,
     classes: &[u64; WORDS],
     c: RegClass,
     v: Value,
-) -> FoundReg
-    ensures { Ready t.now → Long rec.now → Filled (sheet_in t.now) classes.now
-        → result ≡ reg_found (lowest_holding (sheet_in t.now) (allows (sheet_in t.now) c.0) v.0 (record_in rec.now)) }
+) -> Option<PhysReg>
+    ensures { Ready t.now → Filled (sheet_in t.now) classes.now
+        → result ≡ reg_found (lowest_holding (sheet_in t.now) (allows (sheet_in t.now) c.0) v.0 (record_of rec.now)) }
 {
     if !somewhere(rec, v) {
-        return FoundReg::Nothing;
+        return None;
     }
     let s = holders(t, rec, v);
     s.meet(class_set(classes, c)).lowest()
 }
 
 // A slot or a register flagged memory.
+#[tactic(auto, unfolding(rules::specs::Forward::in_memory))]
 pub fn in_memory(t: &[u32], p: Place) -> bool
     ensures { result ≡ in_memory (sheet_in t.now) p }
 {

@@ -12,7 +12,7 @@ use lib.ListN.{length, get_or, set, take, drop, replicate, length-set, drop_of_l
 use lib.Seq.{drop-cons, get_or-set_same, get_or-set_other}
 use borrow.Author.Tests.{eq-eqb, ne_eqb, le-leb, lt-leb, lt-ltb, le-ltb}
 use Rattle.laws.specs.Fold.{run}
-use Rattle.laws.specs.Lists.{any, keep, is_in, from}
+use Rattle.laws.specs.Lists.{keep, is_in, from}
 use Rattle.laws.specs.Spans.{Span}
 use Rattle.laws.proofs.Cases.{by_bool, by_lt, by_eq}
 
@@ -73,12 +73,12 @@ keep_none f d (x ∷ l) h = rw (h 0 (omega arith)) (keep_none f d l (λ j u. h (
 
 module _ (k : ℕ) where
   pub is_append : (xs ys : List ℕ) → is_in k (xs ++ ys) ≡ (is_in k xs || is_in k ys)
-  unfolding is_in any
+  unfolding is_in
   is_append [] ys = refl
   is_append (x ∷ xs) ys = by_bool (eqb k x) (λ e. rw e) (λ e. rw e (is_append xs ys))
 
   pub is_keep : (f : ℕ → Bool) (l : List ℕ) → is_in k (keep f l) ≡ (is_in k l && f k)
-  unfolding is_in any keep
+  unfolding is_in keep
   is_keep f [] = refl
   is_keep f (x ∷ l) = go (is_keep f l)
     where
@@ -89,7 +89,7 @@ module _ (k : ℕ) where
           (λ q. rw (ne_eqb k x q) (by_bool (f x) (λ p. rw (p, ne_eqb k x q) ih) (λ p. rw p ih)))
 
   pub is_from : (a n : ℕ) → is_in k (from a n) ≡ (leb a k && ltb k (a + n))
-  unfolding is_in any from
+  unfolding is_in from
   is_from a zero = by_lt k a (λ h. rw (lt-leb a k h)) (λ h. rw (le-ltb k (a + 0) (omega arith)) (sym (and-false (leb a k))))
   is_from a (suc n) =
       by_eq k a

@@ -1,15 +1,14 @@
 -- Tests and choices over a list.
-use Rattle.std.specs.Prelude.{Bool, true, false, cond, ◌&&◌, ◌||◌, List, [], ◌∷◌, ℕ, zero, suc, eqb}
+use Rattle.std.specs.Prelude.{Bool, false, cond, ◌||◌, List, [], ◌∷◌, ℕ, zero, suc, eqb}
+use Rattle.std.specs.List.{list_all, list_any}
 
 -- f is true of each
-unfoldable pub all : {A : Type 0} → (A → Bool) → List A → Bool
-all f [] = true
-all f (x ∷ xs) = f x && all f xs
+abbrev pub all : {A : Type 0} → (A → Bool) → List A → Bool
+all f xs = list_all f xs
 
 -- f is true of one
-unfoldable pub any : {A : Type 0} → (A → Bool) → List A → Bool
-any f [] = false
-any f (x ∷ xs) = f x || any f xs
+abbrev pub any : {A : Type 0} → (A → Bool) → List A → Bool
+any f xs = list_any f xs
 
 -- those of which f is true, in their order
 unfoldable pub keep : {A : Type 0} → (A → Bool) → List A → List A

@@ -4,17 +4,17 @@
 --     applied_length, applied_exact     as many cells; those that are an edit row's still are
 --     marked_read, unmarked_read     a row of the cells, where it is marked and where it is not
 --     laid_out          the cells of a page's struck records are its struck cells
---     page_few, page_first, page_next, page_last     the pages one after the other strike the rows
+--     page_next, page_rest, page_last     the pages one after the other strike the rows
 use mathlib.Core.Path.{◌≡◌, refl, sym, ◌∙◌, ap}
 use mathlib.Core.Logic.{◌⊎◌, inl, inr}
 use mathlib.Core.Bool.{cond}
-use mathlib.Core.List.{List}
+use mathlib.Core.List.{List, ◌++◌}
 use Prim.Native.Nat.{ℕ, zero, suc, ◌+◌, ◌*◌, ◌≤◌, ◌<◌}
 use native.Mathlib.Numerals.{add-one}
 use native.Mathlib.Omega.{arith}
 use lib.Dec.{eqb}
-use lib.ListN.{length, get_or, set, take, drop, length-set, length-take, get_or-eq_default}
-use lib.Seq.{get_or-take, get_or-drop, get_or-set_same, get_or-set_other, set-get_or, set_comm}
+use lib.ListN.{length, get_or, set, drop, length-set, get_or-append, get_or-eq_default}
+use lib.Seq.{get_or-drop, drop-drop, drop-append_seam, get_or-set_same, get_or-set_other, set-get_or, set_comm}
 use borrow.Author.Tests.{ne_eqb}
 use Rattle.laws.proofs.Cases.{by_bool, by_eq, by_lt}
 use Rattle.entity.specs.declared.forms.Edit.TheVariants.{Nothing}
@@ -164,41 +164,27 @@ ahead first cells marks (suc n) i h =
     by_bool (eqb (get_or marks n 0) 0) (λ e. rw e (ahead first cells marks n i (omega arith)))
     (λ e. rw e (cell_other (each_row (on first) cells marks n) (first + n) i (omega arith) ∙ ahead first cells marks n i (omega arith)))
 
--- past the marks nothing is struck
-idle : (first : ℕ) (cells marks : List ℕ) (n m : ℕ) → length marks ≤ n → n ≤ m → each_row (on first) cells marks m ≡ each_row (on first) cells marks n
-unfolding each_row applied_at
-idle first cells marks n zero h l = let e : n ≡ 0 = omega arith in rw e
-idle first cells marks n (suc m) h l =
-    by_eq n (suc m) (λ e. rw e) (λ e. rw (get_or-eq_default marks 0 {n = m} (omega arith)) (idle first cells marks n m h (omega arith)))
+-- a page after the n rows before it
+module _ (marks : List ℕ) (n : ℕ) (page rest : List ℕ) (p : drop n marks ≡ page ++ rest) where
+  pub page_rest : rest ≡ drop (n + length page) marks
+  page_rest = sym (drop-append_seam page rest) ∙ ap (drop (length page)) (sym p) ∙ drop-drop (length page) n marks
 
-pub page_few : (n : ℕ) (marks : List ℕ) {page : List ℕ} → page ≡ take page_rows (drop n marks) → length page ≤ page_rows
-page_few n marks p = omega (arith, ap length p, length-take page_rows (drop n marks))
+  module _ (cells : List ℕ) where
+    turned : (k : ℕ) → k ≤ length page → each_row (on n) (to cells marks n) page k ≡ to cells marks (n + k)
+    unfolding each_row
+    turned zero h = let e : n + 0 ≡ n = omega arith in rw e
+    turned (suc k) h =
+        let e : n + suc k ≡ suc (n + k) = omega arith in
+        let m : get_or page k 0 ≡ get_or marks (n + k) 0 = sym (get_or-append page rest 0 k (omega arith)) ∙ ap (λ (l : List ℕ). get_or l k 0) (sym p) ∙ get_or-drop n marks k 0 in
+        rw (e, each_row, turned k (omega arith)) (ap (applied_at (to cells marks (n + k)) (n + k)) m)
 
-module _ (cells marks : List ℕ) where
-  shown : (n : ℕ) → each_row (on 0) cells marks n ≡ to cells marks n
-  unfolding each_row
-  shown zero = refl
-  shown (suc n) = let e : 0 + n ≡ n = omega arith in rw (shown n, e)
+    pub page_next : {l l' : List ℕ} → l ≡ to cells marks n → l' ≡ applied_from n l page → l' ≡ to cells marks (n + length page)
+    unfolding applied_from
+    page_next q e = e ∙ rw q (turned (length page) (omega arith))
 
-  -- a page after the n rows before it
-  turned : (n k : ℕ) → k ≤ page_rows → each_row (on n) (to cells marks n) (take page_rows (drop n marks)) k ≡ to cells marks (n + k)
-  unfolding each_row
-  turned n zero l = let e : n + 0 ≡ n = omega arith in rw e
-  turned n (suc k) l =
-      let e : n + suc k ≡ suc (n + k) = omega arith in
-      rw (e, each_row, turned n k (omega arith)) (ap (applied_at (to cells marks (n + k)) (n + k)) (get_or-take page_rows (drop n marks) k 0 (omega arith) ∙ get_or-drop n marks k 0))
-
-  pub page_first : cells ≡ to cells marks 0
-  page_first = each_first applied_at cells marks
-
-  pub page_next : (n : ℕ) {l l' page : List ℕ} → l ≡ to cells marks n → page ≡ take page_rows (drop n marks) → l' ≡ applied_from n l page → l' ≡ to cells marks (n + page_rows)
-  unfolding applied_from
-  page_next n {l} {l'} {page} q p e =
-      e ∙ sym (idle n l page (length page) page_rows (omega arith) (page_few n marks p)) ∙ rw (q, p) (turned n page_rows (omega arith))
-
-  pub page_last : (n : ℕ) {l : List ℕ} → l ≡ to cells marks n → length marks ≤ n → l ≡ applied cells marks
-  unfolding applied
-  page_last n q h = q ∙ sym (shown n) ∙ idle 0 cells marks (length marks) n (omega arith) h ∙ shown (length marks)
+pub page_last : (cells marks : List ℕ) {n : ℕ} {l : List ℕ} → l ≡ to cells marks n → n ≡ length marks → l ≡ applied cells marks
+unfolding applied
+page_last cells marks q e = q ∙ ap (to cells marks) e
 
 -- ---- one mark more
 
@@ -250,13 +236,6 @@ module _ (list : List EditRecord) (marks : List ℕ) where
 
 -- ---- the cells as a list, and the list as cells
 
-pub lists_more : (cells : List ℕ) (list : List EditRecord) {r : EditRecord} (first n : ℕ) → n < page_rows → Lists cells list first n → r ≡ record_in cells (first + n) → Lists cells (set list n r) first (n + 1)
-lists_more cells list {r} first n h g e =
-    record {
-      long = length-set list n r ∙ g.long;
-      rows = λ i l. by_eq i n (λ q. rw q (get_or-set_same list n r no_record (omega (arith, g.long)) ∙ e)) (λ q. get_or-set_other list n i r no_record q ∙ g.rows i (omega arith));
-    }
-
 pub laid_first : (cells : List ℕ) (list : List EditRecord) (first : ℕ) → cells ≡ with_records cells list first 0
 unfolding with_records
 laid_first cells list first = refl
@@ -264,9 +243,6 @@ laid_first cells list first = refl
 pub laid_more : (cells l : List ℕ) (list : List EditRecord) (first n : ℕ) {r : EditRecord} {l' : List ℕ} → l ≡ with_records cells list first n → r ≡ get_or list n no_record → l' ≡ with_record l (first + n) r → l' ≡ with_records cells list first (n + 1)
 unfolding with_records
 laid_more cells l list first n q e f = f ∙ rw (q, e, add-one n)
-
-pub laid_last : (cells : List ℕ) {l : List ℕ} (list : List EditRecord) (first n m : ℕ) → l ≡ with_records cells list first n → n ≤ m → m ≤ n → l ≡ with_records cells list first m
-laid_last cells list first n m q a b = let e : n ≡ m = omega arith in rw (← e) q
 
 -- a row replaced by what it was
 same_record : (l cells : List ℕ) (n : ℕ) → ((i : ℕ) → n * 4 ≤ i → get_or l i 0 ≡ get_or cells i 0) → with_record l n (record_in cells n) ≡ l

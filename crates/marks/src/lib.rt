@@ -2,11 +2,11 @@
 // here the cells of the edits become lists of up to 64 records, a list is lent to the function that strikes what is marked, and its records go back to the cells.
 #![tactic(auto)]
 
-ghost use Rattle.std.specs.Prelude.{◌≡◌, ◌≤◌, length, take, drop};
+ghost use Rattle.std.specs.Prelude.{◌≡◌, ◌≤◌, length, take};
 ghost use Rattle.entity.specs.Limits.{edit_limit};
 ghost use Rattle.marks.specs.Marks.{page_rows, none_record, struck_at, struck_by, record_in, Lists, with_record, with_records, applied, applied_from};
 
-use bits::tables::{read_u32, store_u32};
+use bits::tables::{read, store};
 use entity::cells::Word;
 use entity::numbers::EditRow;
 use table::edits::WIDTH;
@@ -52,10 +52,8 @@ fn strike(list: &mut [EditRecord], n: usize, mark: u8)
 fn mark(list: &mut [EditRecord], marks: &[u8])
     ensures { list.new ≡ struck_by list.old marks.now }
 {
-    let mut n = 0;
-    while n < marks.len() {
-        strike(list, n, marks[n]);
-        n += 1;
+    for (n, m) in marks.iter().enumerate() {
+        strike(list, n, *m);
     }
 }
 
@@ -73,10 +71,10 @@ fn read_record(edits: &[u32], n: EditRow) -> EditRecord
 {
     let at = n.0 as usize * WIDTH;
     EditRecord {
-        kind: read_u32(edits, at),
-        to: read_u32(edits, at + 1),
-        from: read_u32(edits, at + 2),
-        value: read_u32(edits, at + 3),
+        kind: read(edits, at, 0),
+        to: read(edits, at + 1, 0),
+        from: read(edits, at + 2, 0),
+        value: read(edits, at + 3, 0),
     }
 }
 
@@ -84,10 +82,10 @@ fn store_record(edits: &mut [u32], n: EditRow, r: EditRecord)
     ensures { edits.new ≡ with_record edits.old n.0 r }
 {
     let at = n.0 as usize * WIDTH;
-    store_u32(edits, at, r.kind);
-    store_u32(edits, at + 1, r.to);
-    store_u32(edits, at + 2, r.from);
-    store_u32(edits, at + 3, r.value);
+    store(edits, at, r.kind);
+    store(edits, at + 1, r.to);
+    store(edits, at + 2, r.from);
+    store(edits, at + 3, r.value);
 }
 
 // Rows of the cells as a list of records, from row `first` on.
@@ -96,10 +94,8 @@ fn listed(edits: &[u32], first: usize, rows: usize) -> [EditRecord; PAGE]
     ensures { Lists edits.now result first rows }
 {
     let mut list = [none(); PAGE];
-    let mut n: usize = 0;
-    while n < rows {
-        list[n] = read_record(edits, EditRow((first + n) as u32));
-        n += 1;
+    for (n, r) in list[..rows].iter_mut().enumerate() {
+        *r = read_record(edits, EditRow((first + n) as u32));
     }
     list
 }
@@ -109,10 +105,8 @@ fn lay_out(edits: &mut [u32], list: [EditRecord; PAGE], first: usize, rows: usiz
     requires { (first ≤ edit_limit) × (rows ≤ page_rows) }
     ensures { edits.new ≡ with_records edits.old list first rows }
 {
-    let mut n: usize = 0;
-    while n < rows {
-        store_record(edits, EditRow((first + n) as u32), list[n]);
-        n += 1;
+    for (n, r) in list[..rows].iter().enumerate() {
+        store_record(edits, EditRow((first + n) as u32), *r);
     }
 }
 
@@ -127,39 +121,15 @@ fn mark_page(edits: &mut [u32], first: usize, marks: &[u8])
     lay_out(edits, struck, first, rows);
 }
 
-// The marks of a page.
-fn page(marks: &[u8], first: usize) -> &[u8]
-    requires { first ≤ length marks.now }
-    ensures { result.now ≡ take page_rows (drop first marks.now) }
-{
-    if marks.len() - first <= PAGE {
-        &marks[first..]
-    } else {
-        let to = first + PAGE;
-        &marks[first..to]
-    }
-}
-
 // The cells, in which the marked rows are struck, page by page.
 fn mark_rows(edits: &mut [u32], marks: &[u8])
     requires { length marks.now ≤ edit_limit }
     ensures { edits.new ≡ applied edits.old marks.now }
 {
-    let mut n: usize = 0;
-    while n < marks.len() {
-        mark_page(edits, n, page(marks, n));
-        n += PAGE;
-    }
-}
-
-// The marks, of which there are no more than edits.
-fn within(marks: &[u8]) -> &[u8]
-    ensures { result.now ≡ take edit_limit marks.now }
-{
-    if marks.len() <= ROWS {
-        marks
-    } else {
-        &marks[..ROWS]
+    let mut first = 0;
+    for page in marks.chunks(PAGE) {
+        mark_page(edits, first, page);
+        first += page.len();
     }
 }
 
@@ -167,5 +137,5 @@ fn within(marks: &[u8]) -> &[u8]
 pub fn mark_cells(edits: &mut [u32], marks: &[u8])
     ensures { edits.new ≡ applied edits.old (take edit_limit marks.now) }
 {
-    mark_rows(edits, within(marks));
+    mark_rows(edits, &marks[..ROWS.min(marks.len())]);
 }

@@ -29,8 +29,8 @@ use Rattle.table.proofs.Sheets.{params_are, long_of, rows_long}
 use Rattle.table.proofs.Ranges.{before_within}
 use Rattle.table.proofs.Lookups.{params_of, insts_are}
 use Rattle.table.proofs.Filling.{total_part}
-use Rattle.record.specs.Flat.{record_in, Long, Becomes}
-use Rattle.record.proofs.Changes.{becomes_as, long_after}
+use Rattle.record.specs.Flat.{record_of}
+use Rattle.record.specs.declared.flat.WalkRecord.{WalkRecord}
 use Rattle.moves.specs.Walks.{Walked, entered, optimised, prepared, block_most, inst_most}
 use Rattle.moves.proofs.Walks.{walked_fewer, walked_with}
 
@@ -72,14 +72,16 @@ module _ {S : Type 0} {P : ℕ → S → Type 0} (f : S → ℕ → S) (cost n i
         let r : p.at ≡ e = rw z at p.rest in
         rw (← r) p.stands
 
--- ---- the record: one change after the other
+-- ---- the same of a run that costs nothing
 
--- the record of `rec` is s; it costs nothing
-abbrev pub Became : List ℕ → List ℕ → ℕ → Record → Type 0
-Became rec₀ rec n s = Becomes rec₀ rec s
+module _ {S : Type 0} (f : S → ℕ → S) (i to : ℕ) (s : S) {e : S} where
+  pub run_again : {s' : S} → i < to → s' ≡ f s i → run f s (from i (to - i)) ≡ e → run f s' (from (i + 1) (to - (i + 1))) ≡ e
+  unfolding run
+  run_again h q p = rw q (rw (from_step i to h) at p)
 
-next : {a b c : List ℕ} {s : Record} (g : Record → Record) → Long a → (Long b → Becomes b c (g (record_in b))) → Becomes a b s → Becomes a c (g s)
-next g l q p = let y = q (long_after p l) in record { long = y.long ∙ p.long; is = y.is ∙ ap g p.is }
+  pub run_done : to ≤ i → run f s (from i (to - i)) ≡ e → s ≡ e
+  unfolding run from
+  run_done h p = let z : to - i ≡ 0 = omega arith in rw z at p
 
 -- ---- the parameters of a block
 
@@ -107,21 +109,18 @@ module _ (t : List ℕ) (b : ℕ) where
       (omega (arith, before_within b (rows_at t 9)), omega (arith, before_within (b + 1) (rows_at t 9))))
       (λ h. rw (le-ltb b block_limit h) (omega arith, omega arith))
 
-  module _ {rec₀ rec : List ℕ} {n to : ℕ} where
-    pub entered_next : {rec' : List ℕ} {p : Param} {e : Record} → p ≡ param_of (param_row sh n) → n < to → (Long rec → Becomes rec rec' (define sh b p.value.0 p.place (record_in rec)))
-        → (Ready t → Long rec₀ → Passing (Became rec₀ rec) defines 0 0 n to e) → Ready t → Long rec₀ → Passing (Became rec₀ rec') defines 0 0 (n + 1) to e
-    entered_next {p = p} q h d i g l =
-        passing_again defines 0 0 n to h (λ m s x. next (λ s. defines s n) l (λ k. becomes_as (d k) (ap (λ (y : Param). define sh b y.value.0 y.place (record_in rec)) q)) x) (i g l)
+  module _ (s : Record) {n to : ℕ} where
+    pub entered_next : {s' e : Record} {p : Param} → p ≡ param_of (param_row sh n) → n < to → s' ≡ define sh b p.value.0 p.place s → run defines s (from n (to - n)) ≡ e → run defines s' (from (n + 1) (to - (n + 1))) ≡ e
+    entered_next q h d x = run_again defines n to s h (d ∙ ap (λ (y : Param). define sh b y.value.0 y.place s) q) x
 
-    pub entered_end : {r : Range} → r ≡ range_in t param_index block_limit b → to ≤ n
-        → (Ready t → Long rec₀ → Passing (Became rec₀ rec) defines 0 0 n to (run defines (record_in rec₀) (from r.from (r.to - r.from)))) → Ready t → Long rec₀ → Becomes rec₀ rec (entered sh b (record_in rec₀))
+    pub entered_end : {r : Range} (s₀ : Record) → r ≡ range_in t param_index block_limit b → to ≤ n → Ready t → run defines s (from n (to - n)) ≡ run defines s₀ (from r.from (r.to - r.from)) → s ≡ entered sh b s₀
     unfolding entered
-    entered_end {r} q h i g l =
+    entered_end s₀ q h g x =
         let k = param_range_lem g in
-        becomes_as (passing_end defines 0 0 n to h (i g l))
-        (ap (λ (x : Range). run defines (record_in rec₀) (from x.from (x.to - x.from))) q
-        ∙ run_part (λ s p. define sh b p.value p.place s) _ sh.params (range_in t param_index block_limit b).from ((range_in t param_index block_limit b).to - (range_in t param_index block_limit b).from) (record_in rec₀) (omega (arith, k.0, k.1))
-        ∙ ap (run (λ s p. define sh b p.value p.place s) (record_in rec₀)) (params_of g b))
+        run_done defines n to s h x
+        ∙ ap (λ (x : Range). run defines s₀ (from x.from (x.to - x.from))) q
+        ∙ run_part (λ s p. define sh b p.value p.place s) _ sh.params (range_in t param_index block_limit b).from ((range_in t param_index block_limit b).to - (range_in t param_index block_limit b).from) s₀ (omega (arith, k.0, k.1))
+        ∙ ap (run (λ s p. define sh b p.value p.place s) s₀) (params_of g b)
 
 -- ---- the instructions of a block
 
@@ -146,13 +145,13 @@ module _ (sh : Sheet) (b : ℕ) where
   abbrev pub prepares : List Edit → Record → ℕ → Record
   prepares es u i = prepare_inst sh b (run (λ x j. effect sh (get_or es j Nothing) x) u (edits_at sh i)) i
 
-module _ {t rec edits places counts : List ℕ} (b : ℕ) where
+module _ {t : List ℕ} {rec : WalkRecord} {edits places counts : List ℕ} (b : ℕ) where
   -- before the first instruction
-  pub optimised_start : {r : Range} {rec₀ : List ℕ} → r ≡ range_in t inst_index block_limit b → Ready t → (Ready t → Long rec₀ → Becomes rec₀ rec (entered (sheet_in t) b (record_in rec₀)))
+  pub optimised_start : {r : Range} {rec₀ : WalkRecord} → r ≡ range_in t inst_index block_limit b → Ready t → (Ready t → record_of rec ≡ entered (sheet_in t) b (record_of rec₀))
       → (n : ℕ) (w : Walk) → Walked t rec₀ edits places counts (n + block_most) w → Walked t rec edits places counts (n + inst_most * (r.to - r.from)) (with_rec (entered (sheet_in t) b) w)
   optimised_start {r} q g p n w x = walked_fewer (n + inst_most * (r.to - r.from)) (omega (arith, insts_few b q g)) (walked_with (entered (sheet_in t) b) (p g) x)
 
-  pub optimised_next : {rec₁ edits₁ counts₁ rec₂ places₂ counts₂ : List ℕ} {i to n : ℕ} {e : Walk} → i < to
+  pub optimised_next : {rec₁ rec₂ : WalkRecord} {edits₁ counts₁ places₂ counts₂ : List ℕ} {i to n : ℕ} {e : Walk} → i < to
       → ((places : List ℕ) (n : ℕ) (w : Walk) → Walked t rec edits places counts (n + edit_limit) w → Walked t rec₁ edits₁ places counts₁ n (run (optimise_edit (sheet_in t) b) w (edits_at (sheet_in t) i)))
       → ((edits : List ℕ) (n : ℕ) (w : Walk) → Walked t rec₁ edits places counts₁ (n + operand_limit) w → Walked t rec₂ edits places₂ counts₂ n (optimise_inst (sheet_in t) b w i))
       → Passing (Walked t rec edits places counts) (optimises (sheet_in t) b) inst_most n i to e → Passing (Walked t rec₂ edits₁ places₂ counts₂) (optimises (sheet_in t) b) inst_most n (i + 1) to e
@@ -168,20 +167,15 @@ module _ {t rec edits places counts : List ℕ} (b : ℕ) where
       rw (← run_insts b (optimises (sheet_in t) b) (with_rec (entered (sheet_in t) b) w) q g)
       (walked_fewer n (omega arith) (passing_end (optimises (sheet_in t) b) inst_most n i r.to h x))
 
-module _ (t : List ℕ) (b : ℕ) (es : List Edit) {rec₀ rec : List ℕ} where
-  pub prepared_next : {rec₁ rec₂ : List ℕ} {i to : ℕ} {e : Record} → i < to → Long rec₀
-      → (Long rec → Becomes rec rec₁ (run (λ x j. effect (sheet_in t) (get_or es j Nothing) x) (record_in rec) (edits_at (sheet_in t) i)))
-      → (Long rec₁ → Becomes rec₁ rec₂ (prepare_inst (sheet_in t) b (record_in rec₁) i))
-      → Passing (Became rec₀ rec) (prepares (sheet_in t) b es) 0 0 i to e → Passing (Became rec₀ rec₂) (prepares (sheet_in t) b es) 0 0 (i + 1) to e
-  prepared_next {i = i} {to = to} h l p q x =
-      passing_again (prepares (sheet_in t) b es) 0 0 i to h
-      (λ m s y. next (λ u. prepare_inst (sheet_in t) b u i) l q (next (λ u. run (λ x j. effect (sheet_in t) (get_or es j Nothing) x) u (edits_at (sheet_in t) i)) l p y)) x
+module _ (t : List ℕ) (b : ℕ) (es : List Edit) (s : Record) where
+  pub prepared_next : (s₁ : Record) {s₂ e : Record} {i to : ℕ} → i < to → s₁ ≡ run (λ x j. effect (sheet_in t) (get_or es j Nothing) x) s (edits_at (sheet_in t) i) → s₂ ≡ prepare_inst (sheet_in t) b s₁ i
+      → run (prepares (sheet_in t) b es) s (from i (to - i)) ≡ e → run (prepares (sheet_in t) b es) s₂ (from (i + 1) (to - (i + 1))) ≡ e
+  prepared_next s₁ {i = i} {to = to} h p q x = run_again (prepares (sheet_in t) b es) i to s h (q ∙ ap (λ (u : Record). prepare_inst (sheet_in t) b u i) p) x
 
-  pub prepared_end : {r : Range} {i : ℕ} {rec' : List ℕ} → r ≡ range_in t inst_index block_limit b → r.to ≤ i → Ready t → (Ready t → Long rec' → Becomes rec' rec₀ (entered (sheet_in t) b (record_in rec')))
-      → (Long rec₀ → Passing (Became rec₀ rec) (prepares (sheet_in t) b es) 0 0 i r.to (run (prepares (sheet_in t) b es) (record_in rec₀) (from r.from (r.to - r.from))))
-      → Long rec' → Becomes rec' rec (prepared (sheet_in t) b es (record_in rec'))
+  pub prepared_end : {r : Range} {i : ℕ} (s₀ s₁ : Record) → r ≡ range_in t inst_index block_limit b → r.to ≤ i → Ready t → s₁ ≡ entered (sheet_in t) b s₀
+      → run (prepares (sheet_in t) b es) s (from i (r.to - i)) ≡ run (prepares (sheet_in t) b es) s₁ (from r.from (r.to - r.from)) → s ≡ prepared (sheet_in t) b es s₀
   unfolding prepared
-  prepared_end {r} {i} q h g p x l =
-      let y = p g l in
-      next (λ s. run (prepares (sheet_in t) b es) s (insts_of (sheet_in t) b)) l
-      (λ k. becomes_as (passing_end (prepares (sheet_in t) b es) 0 0 i r.to h (x k)) (run_insts b (prepares (sheet_in t) b es) (record_in rec₀) q g)) y
+  prepared_end {r} {i} s₀ s₁ q h g p x =
+      run_done (prepares (sheet_in t) b es) i r.to s h x
+      ∙ run_insts b (prepares (sheet_in t) b es) s₁ q g
+      ∙ ap (λ (u : Record). run (prepares (sheet_in t) b es) u (insts_of (sheet_in t) b)) p

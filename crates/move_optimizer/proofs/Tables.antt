@@ -1,8 +1,8 @@
--- The tables that `walk`, `no_blocks`, `few_blocks`, `some_blocks` and `all_blocks` of src/levels.rt make: an empty record is the rules' `fresh`, no state is set, no
--- class has its words. Assumes nothing.
-use mathlib.Core.Path.{◌≡◌, sym, ◌∙◌}
+-- The tables that `walk` and `walk_in` of src/levels.rt make: an empty record is the rules' `fresh`, no state is set, no class has its words. Assumes nothing.
+use mathlib.Core.Path.{◌≡◌, sym, ap, ◌∙◌}
 use mathlib.Core.Bool.{and-false}
 use mathlib.Core.List.{List}
+use mathlib.Core.Logic.{◌⊎◌, inl, inr}
 use Prim.Native.Nat.{ℕ, ◌+◌, ◌≤◌}
 use native.Mathlib.Omega.{arith}
 use lib.ListN.{length, replicate, length-replicate, get_or-replicate}
@@ -18,18 +18,19 @@ use Rattle.table.specs.Index.{Ready}
 use Rattle.move_optimizer.specs.Levels.{handed_blocks}
 use Rattle.rules.specs.Forward.{Walk}
 use Rattle.record.specs.Layout.{defined_at, held_at, noted_reg_at, noted_value_at, record_length, spilled_at, stored_at, unit_reg_at, unit_value_at}
-use Rattle.record.specs.Flat.{section, record_in, Long}
+use Rattle.record.specs.Flat.{section, record_in}
+use Rattle.record.specs.declared.flat.WalkRecord.{WalkRecord}
 use Rattle.states.specs.Layout.{state_at}
 use Rattle.states.specs.States.{fits, is_set, Unset}
 use Rattle.states.proofs.Spans.{section_filled}
 use Rattle.holders.specs.Holders.{Blank}
 use Rattle.moves.specs.Walks.{Written, Walked}
 
-pub made_unset : (n k : ℕ) → n ≤ k → k ≤ block_limit → Unset n (replicate (state_at k) 0)
+pub made_unset : (n m : ℕ) → n ≤ block_limit → state_at n ≤ m → Unset n (replicate m 0)
 unfolding is_set
-made_unset n k h l =
-    let e : length (replicate {A = ℕ} (state_at k) 0) ≡ state_at k = length-replicate {A = ℕ} (state_at k) 0 in
-    record { room = record { few = omega arith; long = omega arith }; none = λ b. rw (zeros (state_at k) b) (and-false (fits (replicate (state_at k) 0) b)) }
+made_unset n m l h =
+    let e : length (replicate {A = ℕ} m 0) ≡ m = length-replicate {A = ℕ} m 0 in
+    record { room = record { few = l; long = omega arith }; none = λ b. rw (zeros m b) (and-false (fits (replicate m 0) b)) }
 
 -- ---- the blocks that have a state at a level
 
@@ -44,21 +45,15 @@ pub handed_few : {t : List ℕ} (level : Level) → Ready t → handed_blocks (s
 handed_few {t} level g = omega (arith, handed_most (sheet_in t) level, (in_limits (sheet_in t) g.limits).few_blocks)
 
 module _ (sh : Sheet) {level : Level} where
-  pub none_off : level ≡ Off → 0 ≡ handed_blocks sh level
+  pub none_handed : (level ≡ Off) ⊎ (level ≡ Local) → 0 ≡ handed_blocks sh level
   unfolding handed_blocks
-  none_off q = rw q
+  none_handed (inl q) = rw q
+  none_handed (inr q) = rw q
 
-  pub none_local : level ≡ Local → 0 ≡ handed_blocks sh level
+  pub all_handed : (level ≡ Forward) ⊎ (level ≡ Global) → block_count sh ≡ handed_blocks sh level
   unfolding handed_blocks
-  none_local q = rw q
-
-  pub all_forward : level ≡ Forward → block_count sh ≡ handed_blocks sh level
-  unfolding handed_blocks
-  all_forward q = rw q
-
-  pub all_global : level ≡ Global → block_count sh ≡ handed_blocks sh level
-  unfolding handed_blocks
-  all_global q = rw q
+  all_handed (inl q) = rw q
+  all_handed (inr q) = rw q
 
 -- ---- the classes and the record
 
@@ -66,9 +61,6 @@ pub made_blank : (m : ℕ) → 68 ≤ m → Blank (replicate m 0)
 made_blank m h = record { long = let e : length (replicate {A = ℕ} m 0) ≡ m = length-replicate {A = ℕ} m 0 in omega arith; zeros = λ k. zeros m k }
 
 module _ (m : ℕ) (h : record_length ≤ m) where
-  made_long : Long (replicate m absent)
-  made_long = let e : length (replicate {A = ℕ} m absent) ≡ m = length-replicate {A = ℕ} m absent in omega arith
-
   part_is : (at k : ℕ) → at + k ≤ record_length → section (replicate m absent) at k ≡ replicate k absent
   part_is at k l =
       let e : length (replicate {A = ℕ} m absent) ≡ m = length-replicate {A = ℕ} m absent in
@@ -88,5 +80,5 @@ module _ (m : ℕ) (h : record_length ≤ m) where
         part_is noted_value_at unit_limit (omega arith),
       )
 
-  pub made_walked : {t edits places counts : List ℕ} {n : ℕ} {w : Walk} → w.rec ≡ fresh → Written t edits places counts n w → Walked t (replicate m absent) edits places counts n w
-  made_walked e c = record { long = made_long; is_rec = e ∙ sym made_fresh; cells = c }
+pub made_walked : {t : List ℕ} {rec : WalkRecord} {edits places counts : List ℕ} {n : ℕ} {w : Walk} → rec.cells ≡ replicate record_length absent → w.rec ≡ fresh → Written t edits places counts n w → Walked t rec edits places counts n w
+made_walked r e c = record { is_rec = e ∙ sym (ap record_in r ∙ made_fresh record_length (omega arith)); cells = c }

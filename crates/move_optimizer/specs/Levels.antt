@@ -8,15 +8,32 @@ use Rattle.rules.specs.Record.{fresh}
 use Rattle.rules.specs.Forward.{optimise}
 use Rattle.rules.specs.{Sheet.block_count, Forward.Walk, Forward.Handed}
 use Rattle.table.specs.Sheet.{sheet_in}
+use Rattle.record.specs.declared.flat.WalkRecord.{WalkRecord}
 use Rattle.states.specs.States.{states_in, Lies}
 use Rattle.moves.specs.Walks.{Walked, Written, walk_most}
+use Rattle.move_optimizer.specs.declared.levels.Cells.{Cells}
 
-pub record Stands (t rec states edits places counts : List ℕ) (waiting : NumberSet) (n : ℕ) (wh : Walk × Handed) : Type 0 where
+-- the cells that are lent stay the same
+pub record SameCells (c c' : Cells) : Type 0 where
+  pub rec : c'.rec.ghost_name ≡ c.rec.ghost_name
+  pub edits : c'.edits.ghost_name ≡ c.edits.ghost_name
+  pub places : c'.places.ghost_name ≡ c.places.ghost_name
+  pub counts : c'.counts.ghost_name ≡ c.counts.ghost_name
+
+-- a walk stands in the cells
+abbrev pub StandsIn : List ℕ → Cells → ℕ → Walk → Type 0
+StandsIn t c n w = Walked t c.rec.now c.edits.now c.places.now c.counts.now n w
+
+-- the walk in the cells goes on by f, and a count goes up at most so often
+abbrev pub Goes : List ℕ → Cells → Cells → ℕ → (Walk → Walk) → Type 0
+Goes t c c' most f = (n : ℕ) (w : Walk) → StandsIn t c (n + most) w → StandsIn t c' n (f w)
+
+pub record Stands (t : List ℕ) (rec : WalkRecord) (states edits places counts : List ℕ) (waiting : NumberSet) (n : ℕ) (wh : Walk × Handed) : Type 0 where
   pub walked : Walked t rec edits places counts n wh.0
   pub lies : Lies (block_count (sheet_in t)) states waiting wh.1
 
 -- the same when the visits are over: which blocks wait does not matter
-pub record Rests (t rec states edits places counts : List ℕ) (n : ℕ) (wh : Walk × Handed) : Type 0 where
+pub record Rests (t : List ℕ) (rec : WalkRecord) (states edits places counts : List ℕ) (n : ℕ) (wh : Walk × Handed) : Type 0 where
   pub walked : Walked t rec edits places counts n wh.0
   pub are : states_in states (block_count (sheet_in t)) ≡ wh.1.states
 

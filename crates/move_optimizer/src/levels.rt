@@ -7,21 +7,21 @@ ghost use Rattle.rules.specs.Forward.{Walk, Handed, optimise_block, visit, visit
 ghost use Rattle.table.specs.Sheet.{sheet_in};
 ghost use Rattle.table.specs.Index.{Ready};
 ghost use Rattle.table.specs.Edits.{edits_in};
-ghost use Rattle.record.specs.Flat.{record_in, Long, Becomes};
+ghost use Rattle.record.specs.Flat.{record_of};
+ghost use Rattle.states.specs.Layout.{state_at};
 ghost use Rattle.states.specs.States.{state_in, Unset};
 ghost use Rattle.holders.specs.Holders.{Filled};
 ghost use Rattle.moves.specs.Walks.{Ordered, Written, Walked, entered, optimised, prepared, all_most, block_most, visit_most, walk_most};
-ghost use Rattle.move_optimizer.specs.Levels.{Stands, Rests, handed_blocks, Optimises};
+ghost use Rattle.move_optimizer.specs.Levels.{SameCells, Goes, Stands, Rests, handed_blocks, Optimises};
 
 use entity::forms::Level;
 use entity::numbers::{Block, Inst, ParamRow};
-use entity::sets::{BlockSet, FoundBlock};
+use entity::sets::BlockSet;
 use folding::{optimise_inst, prepare_inst};
 use graph::succs;
 use holders::{WORDS, fill};
 use moves::{optimise_edits, prepare_edits};
-use record::flat::{LENGTH, NONE};
-use record::steps::define;
+use record::flat::{LENGTH, NONE, WalkRecord};
 use states::handed::{FLAGS, KNOWN, begin_empty, hand_on, take_in};
 use states::starts::{forward_start, global_start};
 use table::counts::{Count, tally};
@@ -29,132 +29,100 @@ use table::index::{insts_of, param_rows};
 use table::rows::{Kind, count};
 use table::view::param_at;
 
+// How long a table with the states of 4, of 16 and of all blocks is. One without states is its flags.
+const FEW: usize = FLAGS + 4 * KNOWN;
+
+const SOME: usize = FLAGS + 16 * KNOWN;
+
+const ALL: usize = FLAGS + Block::LIMIT as usize * KNOWN;
+
+// What a walk goes on in: its record, and the edits, places and counts that are lent.
+#[derive(Drop)]
+struct Cells<'a> {
+    rec: &'a mut WalkRecord,
+    edits: &'a mut [u32],
+    places: &'a mut [u32],
+    counts: &'a mut [u32],
+}
+
 // Each parameter row of block b defines its value at its place.
-fn enter(t: &[u32], rec: &mut [u32; LENGTH], b: Block)
-    ensures { Ready t.now → Long rec.old → Becomes rec.old rec.new (entered (sheet_in t.now) b.0 (record_in rec.old)) }
+fn enter(t: &[u32], rec: &mut WalkRecord, b: Block)
+    ensures { Ready t.now → record_of rec.new ≡ entered (sheet_in t.now) b.0 (record_of rec.old) }
 {
     let rows = param_rows(t, b);
-    let to = rows.to;
-    let mut n = rows.from;
-    while n < to {
+    for n in rows.from..rows.to {
         let p = param_at(t, ParamRow(n));
-        let place = p.place;
-        define(t, rec, b, p.value, place);
-        n += 1;
+        rec.define(t, b, p.value, p.place);
     }
 }
 
 // Block b in the optimising walk, the record as it begins.
-fn optimise_block(
-    t: &[u32],
-    rec: &mut [u32; LENGTH],
-    classes: &[u64; WORDS],
-    edits: &mut [u32],
-    places: &mut [u32],
-    counts: &mut [u32],
-    b: Block,
-)
-    ensures { Ordered t.now → Filled (sheet_in t.now) classes.now → (n : ℕ) (w : Walk)
-        → Walked t.now rec.old edits.old places.old counts.old (n + block_most) w
-        → Walked t.now rec.new edits.new places.new counts.new n (optimised (sheet_in t.now) b.0 w) }
+fn optimise_block(t: &[u32], classes: &[u64; WORDS], c: &mut Cells, b: Block)
+    ensures lent { SameCells c.old c.new }
+    ensures goes { Ordered t.now → Filled (sheet_in t.now) classes.now
+        → Goes t.now c.old c.new block_most (optimised (sheet_in t.now) b.0) }
 {
-    enter(t, rec, b);
+    enter(t, c.rec, b);
     let rows = insts_of(t, b);
-    let to = rows.to;
-    let mut i = rows.from;
-    while i < to {
-        optimise_edits(t, rec, classes, edits, counts, b, Inst(i));
-        optimise_inst(t, rec, classes, places, counts, b, Inst(i));
-        i += 1;
+    for i in rows.from..rows.to {
+        optimise_edits(t, c.rec, classes, c.edits, c.counts, b, Inst(i));
+        optimise_inst(t, c.rec, classes, c.places, c.counts, b, Inst(i));
     }
 }
 
 // Block b in the optimising walk, with what was handed to it.
-fn optimise_handed(
-    t: &[u32],
-    rec: &mut [u32; LENGTH],
-    classes: &[u64; WORDS],
-    states: &[u32],
-    edits: &mut [u32],
-    places: &mut [u32],
-    counts: &mut [u32],
-    b: Block,
-)
-    ensures { Ordered t.now → Filled (sheet_in t.now) classes.now → (n : ℕ) (w : Walk)
-        → Walked t.now rec.old edits.old places.old counts.old (n + block_most) w
-        → Walked t.now rec.new edits.new places.new counts.new n (optimise_block (sheet_in t.now) b.0 (get_or (state_in states.now b.0) nothing) w) }
+fn optimise_handed(t: &[u32], classes: &[u64; WORDS], states: &[u32], c: &mut Cells, b: Block)
+    ensures lent { SameCells c.old c.new }
+    ensures goes { Ordered t.now → Filled (sheet_in t.now) classes.now
+        → Goes t.now c.old c.new block_most (optimise_block (sheet_in t.now) b.0 (get_or (state_in states.now b.0) nothing)) }
 {
-    take_in(t, rec, states, b);
-    optimise_block(t, rec, classes, edits, places, counts, b);
+    take_in(t, c.rec, states, b);
+    optimise_block(t, classes, c, b);
 }
 
 // Block b in the preparing walk.
-fn prepare_block(t: &[u32], rec: &mut [u32; LENGTH], edits: &[u32], b: Block)
-    ensures { Ordered t.now → Long rec.old
-        → Becomes rec.old rec.new (prepared (sheet_in t.now) b.0 (edits_in edits.now (length (sheet_in t.now).edits)) (record_in rec.old)) }
+fn prepare_block(t: &[u32], rec: &mut WalkRecord, edits: &[u32], b: Block)
+    ensures { Ordered t.now → record_of rec.new ≡ prepared (sheet_in t.now) b.0 (edits_in edits.now (length (sheet_in t.now).edits)) (record_of rec.old) }
 {
     enter(t, rec, b);
     let rows = insts_of(t, b);
-    let to = rows.to;
-    let mut i = rows.from;
-    while i < to {
+    for i in rows.from..rows.to {
         prepare_edits(t, rec, edits, Inst(i));
         prepare_inst(t, rec, b, Inst(i));
-        i += 1;
     }
 }
 
 // Each block begins with nothing known.
-fn local(
-    t: &[u32],
-    rec: &mut [u32; LENGTH],
-    classes: &[u64; WORDS],
-    edits: &mut [u32],
-    places: &mut [u32],
-    counts: &mut [u32],
-)
-    ensures { Ordered t.now → Filled (sheet_in t.now) classes.now → (n : ℕ) (w : Walk)
-        → Walked t.now rec.old edits.old places.old counts.old (n + all_most) w
-        → Walked t.now rec.new edits.new places.new counts.new n (optimise (sheet_in t.now) Level.Local w) }
+fn local(t: &[u32], classes: &[u64; WORDS], c: &mut Cells)
+    ensures lent { SameCells c.old c.new }
+    ensures goes { Ordered t.now → Filled (sheet_in t.now) classes.now
+        → Goes t.now c.old c.new all_most (optimise (sheet_in t.now) Level.Local) }
 {
-    let n = count(t, Kind::BLOCK);
-    let mut b: u32 = 0;
-    while b < n {
-        begin_empty(rec);
-        optimise_block(t, rec, classes, edits, places, counts, Block(b));
-        b += 1;
+    for b in 0..count(t, Kind::BLOCK) {
+        begin_empty(c.rec);
+        optimise_block(t, classes, c, Block(b));
     }
 }
 
 // Each block begins with what the blocks before it handed to it.
-fn forward(
-    t: &[u32],
-    rec: &mut [u32; LENGTH],
-    classes: &[u64; WORDS],
-    states: &mut [u32],
-    edits: &mut [u32],
-    places: &mut [u32],
-    counts: &mut [u32],
-)
-    ensures { Ordered t.now → Filled (sheet_in t.now) classes.now → Unset (block_count (sheet_in t.now)) states.old → (n : ℕ) (w : Walk)
-        → Walked t.now rec.old edits.old places.old counts.old (n + all_most) w
-        → Walked t.now rec.new edits.new places.new counts.new n (optimise (sheet_in t.now) Level.Forward w) }
+fn forward(t: &[u32], classes: &[u64; WORDS], states: &mut [u32], c: &mut Cells)
+    ensures lent { SameCells c.old c.new }
+    ensures goes { Ordered t.now → Filled (sheet_in t.now) classes.now → Unset (block_count (sheet_in t.now)) states.old
+        → Goes t.now c.old c.new all_most (optimise (sheet_in t.now) Level.Forward) }
 {
     forward_start(t, states);
-    let n = count(t, Kind::BLOCK);
     let mut w = BlockSet::empty();
-    let mut b: u32 = 0;
-    while b < n {
-        optimise_handed(t, rec, classes, states, edits, places, counts, Block(b));
-        w = hand_on(t, rec, states, w, Block(b));
-        b += 1;
+    for b in 0..count(t, Kind::BLOCK) {
+        optimise_handed(t, classes, states, c, Block(b));
+        w = hand_on(t, c.rec, states, w, Block(b));
     }
 }
 
 // Block b is visited; an exit block is not counted or walked.
+// Stays: the parameters one by one, here and in `visits`; the preparing walk only reads the edits, as `&[u32]` says, and out of one `&mut Cells` a clause would have to.
 fn visit(
     t: &[u32],
-    rec: &mut [u32; LENGTH],
+    rec: &mut WalkRecord,
     states: &mut [u32],
     edits: &[u32],
     counts: &mut [u32],
@@ -177,43 +145,32 @@ fn visit(
 
 // The smallest waiting block is visited, until none waits. A block waits at first if it is an entry, once when its state is first set, and
 // again only when that lost one of its pairs.
-fn visits(t: &[u32], rec: &mut [u32; LENGTH], states: &mut [u32], edits: &[u32], counts: &mut [u32])
+fn visits(t: &[u32], rec: &mut WalkRecord, states: &mut [u32], edits: &[u32], counts: &mut [u32])
     ensures { Ordered t.now → Unset (block_count (sheet_in t.now)) states.old → (places : List ℕ) (n : ℕ) (w : Walk)
         → Walked t.now rec.old edits.now places counts.old (n + visit_most) w
         → Rests t.now rec.new states.new edits.now places counts.new n (visits (sheet_in t.now) (most_visits (sheet_in t.now)) (w, global_start (sheet_in t.now))) }
 {
     let mut w = global_start(t, states);
     let most = Block::LIMIT * (KNOWN as u32 + 2);
-    let mut k: u32 = 0;
-    while k < most {
+    for _ in 0..most {
         match w.lowest() {
-            FoundBlock::At(b) => w = visit(t, rec, states, edits, counts, w, b),
-            FoundBlock::Nothing => return,
+            Some(b) => w = visit(t, rec, states, edits, counts, w, b),
+            None => return,
         }
-        k += 1;
     }
 }
 
 // Each block begins with what the visits handed to it; the record goes on from them.
-fn global(
-    t: &[u32],
-    rec: &mut [u32; LENGTH],
-    classes: &[u64; WORDS],
-    states: &mut [u32],
-    edits: &mut [u32],
-    places: &mut [u32],
-    counts: &mut [u32],
-)
-    ensures { Ordered t.now → Filled (sheet_in t.now) classes.now → Unset (block_count (sheet_in t.now)) states.old → (n : ℕ) (w : Walk)
-        → Walked t.now rec.old edits.old places.old counts.old (n + all_most + visit_most) w
-        → Walked t.now rec.new edits.new places.new counts.new n (optimise (sheet_in t.now) Level.Global w) }
+fn global(t: &[u32], classes: &[u64; WORDS], states: &mut [u32], c: &mut Cells)
+    ensures lent { SameCells c.old c.new }
+    ensures goes { Ordered t.now → Filled (sheet_in t.now) classes.now → Unset (block_count (sheet_in t.now)) states.old
+        → Goes t.now c.old c.new (all_most + visit_most) (optimise (sheet_in t.now) Level.Global) }
 {
-    visits(t, rec, states, edits, counts);
-    let n = count(t, Kind::BLOCK);
-    let mut b: u32 = 0;
-    while b < n {
-        optimise_handed(t, rec, classes, states, edits, places, counts, Block(b));
-        b += 1;
+    // lent by themselves, as the visits read them beside the record
+    let edits = &mut *c.edits;
+    visits(t, c.rec, states, edits, c.counts);
+    for b in 0..count(t, Kind::BLOCK) {
+        optimise_handed(t, classes, states, c, Block(b));
     }
 }
 
@@ -230,46 +187,37 @@ fn walk(
         → Optimises t.now level edits.old places.old counts.old edits.new places.new counts.new }
 {
     let mut classes = [0u64; WORDS];
-    let mut rec = [NONE; LENGTH];
     fill(t, &mut classes);
+    // Filled in its place: a record made of an array of `NONE` is copied once more.
+    let mut rec = WalkRecord { cells: [0; LENGTH] };
+    rec.cells.fill(NONE);
+    let mut c = Cells {
+        rec: &mut rec,
+        edits,
+        places,
+        counts,
+    };
     match level {
         Level::Off => {}
-        Level::Local => local(t, &mut rec, &classes, edits, places, counts),
-        Level::Forward => forward(t, &mut rec, &classes, states, edits, places, counts),
-        Level::Global => global(t, &mut rec, &classes, states, edits, places, counts),
+        Level::Local => local(t, &classes, &mut c),
+        Level::Forward => forward(t, &classes, states, &mut c),
+        Level::Global => global(t, &classes, states, &mut c),
     }
 }
 
-// The walk without states, and with states for few, some and all blocks.
-fn no_blocks(t: &[u32], level: Level, edits: &mut [u32], places: &mut [u32], counts: &mut [u32])
-    ensures { Ordered t.now → handed_blocks (sheet_in t.now) level ≤ 0
+// The walk with a table of N cells for the states.
+fn walk_in<const N: usize>(
+    t: &[u32],
+    level: Level,
+    edits: &mut [u32],
+    places: &mut [u32],
+    counts: &mut [u32],
+)
+    requires { N ≤ ALL }
+    ensures { Ordered t.now → state_at (handed_blocks (sheet_in t.now) level) ≤ N
         → Optimises t.now level edits.old places.old counts.old edits.new places.new counts.new }
 {
-    let mut states = [0u32; FLAGS];
-    walk(t, level, &mut states, edits, places, counts)
-}
-
-fn few_blocks(t: &[u32], level: Level, edits: &mut [u32], places: &mut [u32], counts: &mut [u32])
-    ensures { Ordered t.now → handed_blocks (sheet_in t.now) level ≤ 4
-        → Optimises t.now level edits.old places.old counts.old edits.new places.new counts.new }
-{
-    let mut states = [0u32; FLAGS + 4 * KNOWN];
-    walk(t, level, &mut states, edits, places, counts)
-}
-
-fn some_blocks(t: &[u32], level: Level, edits: &mut [u32], places: &mut [u32], counts: &mut [u32])
-    ensures { Ordered t.now → handed_blocks (sheet_in t.now) level ≤ 16
-        → Optimises t.now level edits.old places.old counts.old edits.new places.new counts.new }
-{
-    let mut states = [0u32; FLAGS + 16 * KNOWN];
-    walk(t, level, &mut states, edits, places, counts)
-}
-
-fn all_blocks(t: &[u32], level: Level, edits: &mut [u32], places: &mut [u32], counts: &mut [u32])
-    ensures { Ordered t.now
-        → Optimises t.now level edits.old places.old counts.old edits.new places.new counts.new }
-{
-    let mut states = [0u32; FLAGS + Block::LIMIT as usize * KNOWN];
+    let mut states = [0u32; N];
     walk(t, level, &mut states, edits, places, counts)
 }
 
@@ -278,10 +226,8 @@ fn handed_blocks(t: &[u32], level: Level) -> u32
     ensures { result ≡ handed_blocks (sheet_in t.now) level }
 {
     match level {
-        Level::Off => 0,
-        Level::Local => 0,
-        Level::Forward => count(t, Kind::BLOCK),
-        Level::Global => count(t, Kind::BLOCK),
+        Level::Off | Level::Local => 0,
+        Level::Forward | Level::Global => count(t, Kind::BLOCK),
     }
 }
 
@@ -292,13 +238,13 @@ fn by_blocks(t: &[u32], level: Level, edits: &mut [u32], places: &mut [u32], cou
 {
     let n = handed_blocks(t, level);
     if n == 0 {
-        no_blocks(t, level, edits, places, counts)
+        walk_in::<FLAGS>(t, level, edits, places, counts)
     } else if n <= 4 {
-        few_blocks(t, level, edits, places, counts)
+        walk_in::<FEW>(t, level, edits, places, counts)
     } else if n <= 16 {
-        some_blocks(t, level, edits, places, counts)
+        walk_in::<SOME>(t, level, edits, places, counts)
     } else {
-        all_blocks(t, level, edits, places, counts)
+        walk_in::<ALL>(t, level, edits, places, counts)
     }
 }
 

@@ -1,7 +1,5 @@
 -- `optimise_move`, `optimise_edit`, `optimise_edits` and `prepare_edits` of src/lib.rt, with their parts: a move or remat, an edit, and the edits
 -- of an instruction in the optimising walk and in the preparing one. Assumes nothing.
---     noted_home, not_noted, settled_by       the record after a move that stays
---     fated_removed, fated_kept, fated_sourced     the record by what becomes of it
 --     rewrite_kept, rewrite_removed, rewrite_sourced     the edits and the counts by what becomes of it
 --     move_by         the three together
 --     edit_move, edit_remat, edit_other     an edit
@@ -46,45 +44,17 @@ use Rattle.table.proofs.Ranges.{before_within}
 use Rattle.table.proofs.Sheets.{edit_row_of, read_long, edits_are, rows_long}
 use Rattle.table.proofs.Stored.{with_length, edits_with, edits_at_lem, cells_with, read_back}
 use Rattle.table.proofs.Counted.{count_more}
-use Rattle.record.specs.Flat.{record_in, spilled_by, Long, Becomes}
-use Rattle.record.proofs.Changes.{spilling, becomes_same, long_after, after}
+use Rattle.record.specs.Flat.{record_of}
+use Rattle.record.specs.declared.flat.WalkRecord.{WalkRecord}
 use Rattle.holders.specs.Holders.{Filled}
 use Rattle.moves.specs.Walks.{Ordered, Written, Walked, Optimises}
 use Rattle.moves.specs.Moves.{source_of, edit_by, as_edit, fate_by, source_for, fate_of, settled, fated_record, recounted, rewritten, SmallArrival, SmallFate}
-use Rattle.moves.specs.declared.Source.{Source}
+use Rattle.std.specs.Prelude as Std
 use Rattle.moves.specs.declared.Arrival.{Arrival}
 use Rattle.moves.specs.declared.Fate.{Fate}
 use Rattle.moves.specs.declared.Fate.TheVariants.{Kept, Removed, Sourced}
 use Rattle.moves.proofs.Deciding.{fate_small}
 use Rattle.moves.proofs.Walks.{written_fewer, written_rec, walked_fewer, walked_with}
-
--- ---- the record
-
-module _ (sh : Sheet) {a : List ℕ} (b v : ℕ) (to : Place) {t : Bool} (e : t ≡ to_home sh to v) where
-  pub noted_home : {c : List ℕ} → t ≡ true → c ≡ spilled_by v b a → Long a → Becomes a c (note_spill sh b to v (record_in a))
-  unfolding note_spill
-  noted_home h q l = rw (sym e ∙ h) (spilling b v q l)
-
-  pub not_noted : t ≡ false → Long a → Becomes a a (note_spill sh b to v (record_in a))
-  unfolding note_spill
-  not_noted h l = rw (sym e ∙ h) (becomes_same a)
-
-module _ (sh : Sheet) {r r' : List ℕ} (b : ℕ) (a : Arrival) where
-  pub settled_by : {s : List ℕ} → (Long r → Becomes r s (note_spill sh b a.to a.value.0 (record_in r))) → (Long s → Becomes s r' (arrive sh a.value.0 a.to (record_in s))) → Long r → Becomes r r' (settled sh b a (record_in r))
-  unfolding settled
-  settled_by p q l = after (note_spill sh b a.to a.value.0) (arrive sh a.value.0 a.to) p q l
-
-  pub fated_kept : {f : Fate} → f ≡ Kept → (Long r → Becomes r r' (settled sh b a (record_in r))) → Long r → Becomes r r' (fated_record sh b a f (record_in r))
-  unfolding fated_record
-  fated_kept e p l = rw e (p l)
-
-  pub fated_sourced : {f : Fate} {q : PhysReg} → f ≡ Sourced q → (Long r → Becomes r r' (settled sh b a (record_in r))) → Long r → Becomes r r' (fated_record sh b a f (record_in r))
-  unfolding fated_record
-  fated_sourced e p l = rw e (p l)
-
-pub fated_removed : (sh : Sheet) (r : List ℕ) (b : ℕ) (a : Arrival) {f : Fate} {k : Count} → f ≡ Removed k → Long r → Becomes r r (fated_record sh b a f (record_in r))
-unfolding fated_record
-fated_removed sh r b a e l = rw e (becomes_same r)
 
 -- ---- the edits and the counts
 
@@ -207,7 +177,7 @@ small_edit to none v s x = (s, x)
 small_edit to (some q) v s x = (s.0, x)
 
 -- row j of the edits
-module _ {t rec edits places counts : List ℕ} {w : Walk} where
+module _ {t : List ℕ} {rec : WalkRecord} {edits places counts : List ℕ} {w : Walk} where
   row_is : (n j : ℕ) → j < length (sheet_in t).edits → Walked t rec edits places counts n w → get_or w.edits j Nothing ≡ edit_in edits j
   row_is n j h k = rw k.cells.in_cells.is_edits (edits_at_lem edits (length (sheet_in t).edits) j Nothing h)
 
@@ -218,24 +188,22 @@ module _ {t rec edits places counts : List ℕ} {w : Walk} where
       small_edit a.to (source_of a.from) a.value.0 (rw r at c.small) (rw r at c.value)
 
 -- what `optimise_move` promises
-abbrev pub Moves : List ℕ → List ℕ → List ℕ → List ℕ → List ℕ → List ℕ → List ℕ → List ℕ → ℕ → ℕ → Arrival → Type 0
+abbrev pub Moves : List ℕ → List ℕ → WalkRecord → List ℕ → List ℕ → WalkRecord → List ℕ → List ℕ → ℕ → ℕ → Arrival → Type 0
 Moves t classes rec edits counts rec' edits' counts' b j a =
     Ready t → Filled (sheet_in t) classes → (places : List ℕ) (n : ℕ) (w : Walk) → j < length (sheet_in t).edits
     → get_or w.edits j Nothing ≡ as_edit a → Walked t rec edits places counts (n + 1) w
     → Walked t rec' edits' places counts' n (optimise_move (sheet_in t) b j a.to (source_of a.from) a.value.0 (as_edit a) w)
 
-pub move_by : {t classes rec edits counts rec' edits' counts' : List ℕ} (b j : ℕ) (a : Arrival) {f : Fate}
-    → (Ready t → Long rec → Filled (sheet_in t) classes → f ≡ fate_of (sheet_in t) b a (record_in rec)) → Rewrites edits counts edits' counts' j a f
-    → (Long rec → Becomes rec rec' (fated_record (sheet_in t) b a f (record_in rec))) → Moves t classes rec edits counts rec' edits' counts' b j a
+pub move_by : {t classes : List ℕ} {rec rec' : WalkRecord} {edits counts edits' counts' : List ℕ} (b j : ℕ) (a : Arrival) {f : Fate}
+    → (Ready t → Filled (sheet_in t) classes → f ≡ fate_of (sheet_in t) b a (record_of rec)) → Rewrites edits counts edits' counts' j a f
+    → record_of rec' ≡ fated_record (sheet_in t) b a f (record_of rec) → Moves t classes rec edits counts rec' edits' counts' b j a
 move_by {t} {rec = rec} {rec' = rec'} {edits' = edits'} {counts' = counts'} b j a {f} p q r g fl places n w h e k =
     let sh : Sheet = sheet_in t in
-    let fate : f ≡ fate_of sh b a w.rec = p g k.long fl ∙ ap (fate_of sh b a) (sym k.is_rec) in
+    let fate : f ≡ fate_of sh b a w.rec = p g fl ∙ ap (fate_of sh b a) (sym k.is_rec) in
     let small : SmallFate f = rw fate (fate_small sh b a w.rec g.limits) in
-    let x = r k.long in
     let y : Walked t rec' edits' places counts' n (parts sh b j a w f) =
     record {
-      long = long_after x k.long;
-      is_rec = ap (fated_record sh b a f) (rewritten_rec j a f w ∙ k.is_rec) ∙ sym x.is;
+      is_rec = ap (fated_record sh b a f) (rewritten_rec j a f w ∙ k.is_rec) ∙ sym r;
       cells = written_rec (fated_record sh b a f) (q (small_arrival (n + 1) j a h e k) small t places n w h k.cells);
     } in
     let is : parts sh b j a w f ≡ whole sh b j a w = ap (parts sh b j a w) fate ∙ move_is sh b j a w e in
@@ -244,7 +212,7 @@ move_by {t} {rec = rec} {rec' = rec'} {edits' = edits'} {counts' = counts'} b j 
 -- ---- an edit
 
 -- the record alone changes
-walked_rec : {t rec rec' edits places counts : List ℕ} {w : Walk} (n : ℕ) (f : Record → Record) → (Long rec → Becomes rec rec' (f (record_in rec)))
+walked_rec : {t : List ℕ} {rec rec' : WalkRecord} {edits places counts : List ℕ} {w : Walk} (n : ℕ) (f : Record → Record) → record_of rec' ≡ f (record_of rec)
     → Walked t rec edits places counts (n + 1) w → Walked t rec' edits places counts n (with_rec f w)
 walked_rec n f p k = walked_with f p (walked_fewer n (omega arith) k)
 
@@ -259,9 +227,9 @@ other_is sh b j w (Ereload r s) x y q = rw (q, optimise_edit) refl
 other_is sh b j w (Misplaced to p) x y q = rw (q, optimise_edit) refl
 other_is sh b j w Nothing x y q = rw (q, optimise_edit) refl
 
-module _ {t classes rec edits counts : List ℕ} (b j : ℕ) {e : Edit} (r : e ≡ edit_in edits j) where
-  module _ {rec' edits' counts' : List ℕ} where
-    pub edit_move : {to p : Place} {v : Value} → e ≡ Move to p v → Moves t classes rec edits counts rec' edits' counts' b j (record { to = to; from = Source.At p; value = v })
+module _ {t classes : List ℕ} {rec : WalkRecord} {edits counts : List ℕ} (b j : ℕ) {e : Edit} (r : e ≡ edit_in edits j) where
+  module _ {rec' : WalkRecord} {edits' counts' : List ℕ} where
+    pub edit_move : {to p : Place} {v : Value} → e ≡ Move to p v → Moves t classes rec edits counts rec' edits' counts' b j (record { to = to; from = Std.Some p; value = v })
         → Optimises t classes rec edits counts rec' edits' counts' b j
     unfolding optimise_edit source_of edit_by
     edit_move q m = record {
@@ -270,7 +238,7 @@ module _ {t classes rec edits counts : List ℕ} (b j : ℕ) {e : Edit} (r : e �
           rw (row ∙ q, optimise_edit) (m g fl places n w h (row ∙ q) k);
     }
 
-    pub edit_remat : {to : Place} {v : Value} → e ≡ Remat to v → Moves t classes rec edits counts rec' edits' counts' b j (record { to = to; from = Source.Nothing; value = v })
+    pub edit_remat : {to : Place} {v : Value} → e ≡ Remat to v → Moves t classes rec edits counts rec' edits' counts' b j (record { to = to; from = Std.None; value = v })
         → Optimises t classes rec edits counts rec' edits' counts' b j
     unfolding optimise_edit source_of edit_by
     edit_remat q m = record {
@@ -279,8 +247,8 @@ module _ {t classes rec edits counts : List ℕ} (b j : ℕ) {e : Edit} (r : e �
           rw (row ∙ q, optimise_edit) (m g fl places n w h (row ∙ q) k);
     }
 
-  pub edit_other : {rec' : List ℕ} → ((to p : Place) (v : Value) → e ≡ Move to p v → ⊥) → ((to : Place) (v : Value) → e ≡ Remat to v → ⊥)
-      → (Long rec → Becomes rec rec' (effect (sheet_in t) e (record_in rec))) → Optimises t classes rec edits counts rec' edits counts b j
+  pub edit_other : {rec' : WalkRecord} → ((to p : Place) (v : Value) → e ≡ Move to p v → ⊥) → ((to : Place) (v : Value) → e ≡ Remat to v → ⊥)
+      → record_of rec' ≡ effect (sheet_in t) e (record_of rec) → Optimises t classes rec edits counts rec' edits counts b j
   edit_other x y p = record {
     goes = λ g fl places n w h k. rw (other_is (sheet_in t) b j w e x y (row_is (n + 1) j h k ∙ sym r)) (walked_rec n (effect (sheet_in t) e) p k);
   }
@@ -314,12 +282,12 @@ module _ {t : List ℕ} {r : Range} (i : ℕ) (e : r ≡ range_in t edit_index i
       Numbered.edits_at_lem o.ready o.order i ∙ rw (← e, m)
 
 -- the walk so far: the counts went up no more often than edits were passed
-abbrev pub Passed : List ℕ → List ℕ → List ℕ → List ℕ → List ℕ → List ℕ → List ℕ → List ℕ → ℕ → ℕ → ℕ → Type 0
+abbrev pub Passed : List ℕ → List ℕ → WalkRecord → List ℕ → List ℕ → WalkRecord → List ℕ → List ℕ → ℕ → ℕ → ℕ → Type 0
 Passed t classes rec edits counts rec' edits' counts' b a j =
     Ordered t → Filled (sheet_in t) classes → (places : List ℕ) (m n : ℕ) (w : Walk) → m + (j - a) ≡ n
     → Walked t rec edits places counts n w → Walked t rec' edits' places counts' m (run (optimise_edit (sheet_in t) b) w (from a (j - a)))
 
-module _ (t classes rec edits counts : List ℕ) (b a : ℕ) where
+module _ (t classes : List ℕ) (rec : WalkRecord) (edits counts : List ℕ) (b a : ℕ) where
   pub edits_none : Passed t classes rec edits counts rec edits counts b a a
   unfolding run from
   edits_none o fl places m n w h k =
@@ -327,8 +295,8 @@ module _ (t classes rec edits counts : List ℕ) (b a : ℕ) where
       let q : n ≡ m = omega arith in
       rw (z, ← q) k
 
-module _ {t classes rec edits counts rec₁ edits₁ counts₁ : List ℕ} {r : Range} (b i : ℕ) {j : ℕ} (e : r ≡ range_in t edit_index inst_limit i) (p : Passed t classes rec edits counts rec₁ edits₁ counts₁ b r.from j) where
-  pub edits_next : {rec₂ edits₂ counts₂ : List ℕ} → Optimises t classes rec₁ edits₁ counts₁ rec₂ edits₂ counts₂ b j → r.from ≤ j → j < r.to → Passed t classes rec edits counts rec₂ edits₂ counts₂ b r.from (j + 1)
+module _ {t classes : List ℕ} {rec : WalkRecord} {edits counts : List ℕ} {rec₁ : WalkRecord} {edits₁ counts₁ : List ℕ} {r : Range} (b i : ℕ) {j : ℕ} (e : r ≡ range_in t edit_index inst_limit i) (p : Passed t classes rec edits counts rec₁ edits₁ counts₁ b r.from j) where
+  pub edits_next : {rec₂ : WalkRecord} {edits₂ counts₂ : List ℕ} → Optimises t classes rec₁ edits₁ counts₁ rec₂ edits₂ counts₂ b j → r.from ≤ j → j < r.to → Passed t classes rec edits counts rec₂ edits₂ counts₂ b r.from (j + 1)
   edits_next q h l o fl places m n w s k =
       rw (run_next (optimise_edit (sheet_in t) b) w r.from j h)
       (q.goes o.ready fl places m (run (optimise_edit (sheet_in t) b) w (from r.from (j - r.from))) (row_in i e o.ready l) (p o fl places (m + 1) n w (omega arith) k))
@@ -347,21 +315,18 @@ abbrev pub step : List ℕ → List ℕ → Record → ℕ → Record
 step t edits u j = effect (sheet_in t) (get_or (edits_in edits (length (sheet_in t).edits)) j Nothing) u
 
 -- the record so far
-abbrev pub Prepared : List ℕ → List ℕ → List ℕ → List ℕ → ℕ → ℕ → Type 0
-Prepared t edits rec rec' a j = Ordered t → Long rec → Becomes rec rec' (run (step t edits) (record_in rec) (from a (j - a)))
+abbrev pub Prepared : List ℕ → List ℕ → Record → Record → ℕ → ℕ → Type 0
+Prepared t edits s s' a j = Ordered t → s' ≡ run (step t edits) s (from a (j - a))
 
-pub effects_none : (t edits rec : List ℕ) (a : ℕ) → Prepared t edits rec rec a a
+pub effects_none : (t edits : List ℕ) (s : Record) (a : ℕ) → Prepared t edits s s a a
 unfolding run from
-effects_none t edits rec a o l = let z : a - a ≡ 0 = omega arith in rw z (becomes_same rec)
+effects_none t edits s a o = let z : a - a ≡ 0 = omega arith in rw z
 
-module _ {t : List ℕ} (edits : List ℕ) {rec rec₁ : List ℕ} {r : Range} (i : ℕ) {j : ℕ} (e : r ≡ range_in t edit_index inst_limit i) (p : Prepared t edits rec rec₁ r.from j) where
-  pub effects_next : {rec₂ : List ℕ} {x : Edit} → x ≡ edit_in edits j → (Long rec₁ → Becomes rec₁ rec₂ (effect (sheet_in t) x (record_in rec₁))) → r.from ≤ j → j < r.to → Prepared t edits rec rec₂ r.from (j + 1)
-  effects_next {x = x} f q h l o n =
-      let y = p o n in
-      let z = q (long_after y n) in
+module _ {t : List ℕ} (edits : List ℕ) (s : Record) {s₁ : Record} {r : Range} (i : ℕ) {j : ℕ} (e : r ≡ range_in t edit_index inst_limit i) (p : Prepared t edits s s₁ r.from j) where
+  pub effects_next : {s₂ : Record} {x : Edit} → x ≡ edit_in edits j → s₂ ≡ effect (sheet_in t) x s₁ → r.from ≤ j → j < r.to → Prepared t edits s s₂ r.from (j + 1)
+  effects_next {x = x} f q h l o =
       let row : get_or (edits_in edits (length (sheet_in t).edits)) j Nothing ≡ x = edits_at_lem edits (length (sheet_in t).edits) j Nothing (row_in i e o.ready l) ∙ sym f in
-      rw (run_next (step t edits) (record_in rec) r.from j h, row)
-      (record { long = z.long ∙ y.long; is = z.is ∙ ap (effect (sheet_in t) x) y.is })
+      rw (run_next (step t edits) s r.from j h, row) (q ∙ ap (effect (sheet_in t) x) (p o))
 
-  pub effects_end : r.from ≤ j → j - r.from ≤ r.to - r.from → r.to ≤ j → Ordered t → Long rec → Becomes rec rec₁ (run (step t edits) (record_in rec) (edits_at (sheet_in t) i))
-  effects_end h u l o n = rw (rows_all i e o h u l) (p o n)
+  pub effects_end : r.from ≤ j → j - r.from ≤ r.to - r.from → r.to ≤ j → Ordered t → s₁ ≡ run (step t edits) s (edits_at (sheet_in t) i)
+  effects_end h u l o = rw (rows_all i e o h u l) (p o)

@@ -1,20 +1,20 @@
 -- A move or remat in the optimising walk by its parts: what becomes of it, what that makes of the edits and the counts, and of the record.
 -- Together they are `optimise_move` of the rules.
 use Rattle.std.specs.Prelude.{cond, ◌||◌, ℕ, ◌<◌, set}
+use Rattle.std.specs.Prelude as Std
 use Rattle.std.proofs.Math.Option.{Option, none, some, Option-elim}
 use Rattle.entity.specs.declared.forms.Place.{Place, TheVariants.Reg}
 use Rattle.entity.specs.declared.forms.Edit.{Edit, TheVariants.Move, TheVariants.Remat, TheVariants.Nothing}
 use Rattle.rules.specs.{Cells.number_limit, Sheet.Sheet, Record.Record, Record.arrive}
 use Rattle.rules.specs.Forward.{Walk, reload_to_move, count, already, spilled_above, note_spill, removal, new_source}
 use Rattle.table.specs.Edits.{SmallPlace}
-use Rattle.moves.specs.declared.Source.{Source}
 use Rattle.moves.specs.declared.Arrival.{Arrival}
 use Rattle.moves.specs.declared.Fate.{Fate, TheVariants.Kept, TheVariants.Removed, TheVariants.Sourced}
 
 -- where a move comes from
-unfoldable pub source_of : Source → Option Place
-source_of (Source.At p) = some p
-source_of Source.Nothing = none
+unfoldable pub source_of : Std.Option Place → Option Place
+source_of (Std.Some p) = some p
+source_of Std.None = none
 
 -- the move or remat as an edit
 unfoldable pub edit_by : Place → Option Place → ℕ → Edit

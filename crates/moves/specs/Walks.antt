@@ -6,7 +6,8 @@ use Rattle.entity.specs.declared.forms.Edit.{Edit, TheVariants.Nothing}
 use Rattle.rules.specs.{Sheet.Sheet, Sheet.insts_of, Accept.in_order, Record.Record, Record.define, Record.effect}
 use Rattle.rules.specs.Forward.{Walk, with_rec, edits_at, optimise_edit, optimise_inst, prepare_inst}
 use Rattle.table.specs.{Layout.edit_width, Sheet.sheet_in, Index.Ready, Written.InCells}
-use Rattle.record.specs.Flat.{record_in, Long}
+use Rattle.record.specs.Flat.{record_of}
+use Rattle.record.specs.declared.flat.WalkRecord.{WalkRecord}
 use Rattle.holders.specs.Holders.{Filled}
 
 -- refusals 1 to 3 are past and the index is built; of 6, that edits stand in order
@@ -38,14 +39,13 @@ pub record Written (t edits places counts : List ℕ) (n : ℕ) (w : Walk) : Typ
   pub few : (k : ℕ) → get_or counts k 0 + n < 4294967296
   pub is_counts : w.counts ≡ counts
 
--- and its record in this table
-pub record Walked (t rec edits places counts : List ℕ) (n : ℕ) (w : Walk) : Type 0 where
-  pub long : Long rec
-  pub is_rec : w.rec ≡ record_in rec
+-- and its record is this one
+pub record Walked (t : List ℕ) (rec : WalkRecord) (edits places counts : List ℕ) (n : ℕ) (w : Walk) : Type 0 where
+  pub is_rec : w.rec ≡ record_of rec
   pub cells : Written t edits places counts n w
 
 -- what one edit, row j, in block b makes of the record, the edits and the counts
-pub record Optimises (t classes rec edits counts rec' edits' counts' : List ℕ) (b j : ℕ) : Type 0 where
+pub record Optimises (t classes : List ℕ) (rec : WalkRecord) (edits counts : List ℕ) (rec' : WalkRecord) (edits' counts' : List ℕ) (b j : ℕ) : Type 0 where
   pub goes : Ready t → Filled (sheet_in t) classes → (places : List ℕ) (n : ℕ) (w : Walk) → j < length (sheet_in t).edits
       → Walked t rec edits places counts (n + 1) w → Walked t rec' edits' places counts' n (optimise_edit (sheet_in t) b w j)
 

@@ -12,34 +12,26 @@ ghost use Rattle.rules.specs.Forward.{Walk, edits_at, optimise_move, optimise_ed
 ghost use Rattle.table.specs.Sheet.{sheet_in};
 ghost use Rattle.table.specs.Index.{Ready};
 ghost use Rattle.table.specs.Edits.{edits_in};
-ghost use Rattle.record.specs.Flat.{record_in, Long, Becomes};
+ghost use Rattle.record.specs.Flat.{record_of};
 ghost use Rattle.holders.specs.Holders.{Filled, reg_found};
 ghost use Rattle.moves.specs.Moves.{source_of, as_edit, source_for, fate_of, settled, fated_record, rewritten, SmallArrival, SmallFate};
 ghost use Rattle.moves.specs.Walks.{Ordered, Written, Walked, Optimises};
 
 use entity::forms::{Edit, Place};
 use entity::numbers::{Block, EditRow, Inst, PhysReg, Value};
-use entity::sets::FoundReg;
 use graph::dominates;
 use holders::{ALL, WORDS, in_memory, lowest_holding};
-use record::flat::{LENGTH, NONE, spill_in, spilled, stored};
-use record::steps::{arrive, effect, holds, is_home};
+use record::flat::{NONE, WalkRecord};
+use record::steps::is_home;
 use table::counts::{Count, tally};
 use table::edits::{read_edit, store_edit};
 use table::index::edit_rows;
 
-// Where a move comes from; a remat comes from nowhere.
-#[derive(Clone, Copy)]
-pub enum Source {
-    At(Place),
-    Nothing,
-}
-
-// What a move or remat meets: where it goes, where it comes from, and its value.
+// What a move or remat meets: where it goes, where it comes from (a remat from nowhere), and its value.
 #[derive(Clone, Copy)]
 pub struct Arrival {
     pub to: Place,
-    pub from: Source,
+    pub from: Option<Place>,
     pub value: Value,
 }
 
@@ -52,16 +44,18 @@ pub enum Fate {
 }
 
 // The place already holds v.
-fn already(rec: &[u32; LENGTH], to: Place, v: Value) -> bool
-    ensures { (sh : Sheet) → Long rec.now → result ≡ Rule.already sh to v.0 (record_in rec.now) }
+#[tactic(auto, unfolding(rules::specs::Forward::already))]
+fn already(rec: &WalkRecord, to: Place, v: Value) -> bool
+    ensures { (sh : Sheet) → result ≡ Rule.already sh to v.0 (record_of rec.now) }
 {
     match to {
-        Place::Reg(r) => holds(rec, r, v),
-        Place::Slot(s) => stored(rec, s) == v.0,
+        Place::Reg(r) => rec.holds(r, v),
+        Place::Slot(s) => rec.stored(s) == v.0,
     }
 }
 
 // The place is v's home slot.
+#[tactic(auto, unfolding(rules::specs::Forward::to_home))]
 fn to_home(t: &[u32], to: Place, v: Value) -> bool
     ensures { result ≡ Rule.to_home (sheet_in t.now) to v.0 }
 {
@@ -72,82 +66,67 @@ fn to_home(t: &[u32], to: Place, v: Value) -> bool
 }
 
 // The place is v's home slot, and v's last spilled block dominates block b.
-fn spilled_above(t: &[u32], rec: &[u32; LENGTH], b: Block, to: Place, v: Value) -> bool
-    ensures { Long rec.now → result ≡ Rule.spilled_above (sheet_in t.now) b.0 to v.0 (record_in rec.now) }
+#[tactic(auto, unfolding(rules::specs::Forward::spilled_above))]
+fn spilled_above(t: &[u32], rec: &WalkRecord, b: Block, to: Place, v: Value) -> bool
+    ensures { result ≡ Rule.spilled_above (sheet_in t.now) b.0 to v.0 (record_of rec.now) }
 {
-    let a = spilled(rec, v);
-    if a == NONE {
-        return false;
-    }
-    if to_home(t, to, v) {
-        return dominates(t, Block(a), b);
-    }
-    false
+    let a = rec.spilled(v);
+    a != NONE && to_home(t, to, v) && dominates(t, Block(a), b)
 }
 
-fn note_spill(t: &[u32], rec: &mut [u32; LENGTH], b: Block, to: Place, v: Value)
-    ensures { Long rec.old → Becomes rec.old rec.new (Rule.note_spill (sheet_in t.now) b.0 to v.0 (record_in rec.old)) }
+#[tactic(auto, unfolding(rules::specs::Forward::note_spill))]
+fn note_spill(t: &[u32], rec: &mut WalkRecord, b: Block, to: Place, v: Value)
+    ensures { record_of rec.new ≡ Rule.note_spill (sheet_in t.now) b.0 to v.0 (record_of rec.old) }
 {
     if to_home(t, to, v) {
-        spill_in(rec, b, v);
+        rec.spill_in(b, v);
     }
 }
 
 // The count of a removal.
-fn removal(t: &[u32], to: Place, from: Source) -> Count
+#[tactic(auto, unfolding(rules::specs::Forward::removal, crate::specs::Moves::source_of))]
+fn removal(t: &[u32], to: Place, from: Option<Place>) -> Count
     ensures { result.0 ≡ Rule.removal (sheet_in t.now) to (source_of «from») }
 {
     match to {
         Place::Slot(_) => Count::REDUNDANT_SPILL,
         Place::Reg(_) => match from {
-            Source::Nothing => Count::REDUNDANT_REMAT,
-            Source::At(p) => {
-                if in_memory(t, p) {
-                    Count::REDUNDANT_RELOAD
-                } else {
-                    Count::REDUNDANT_MOVE
-                }
-            }
+            None => Count::REDUNDANT_REMAT,
+            Some(p) if in_memory(t, p) => Count::REDUNDANT_RELOAD,
+            Some(_) => Count::REDUNDANT_MOVE,
         },
     }
 }
 
 // The register that takes the place of a source in memory.
+#[tactic(auto, using(crate::proofs::Deciding::no_source, crate::proofs::Deciding::memory_source, crate::proofs::Deciding::kept_source))]
 fn new_source(
     t: &[u32],
-    rec: &[u32; LENGTH],
+    rec: &WalkRecord,
     classes: &[u64; WORDS],
-    from: Source,
+    from: Option<Place>,
     v: Value,
-) -> FoundReg
-    ensures { Ready t.now → Long rec.now → Filled (sheet_in t.now) classes.now
-        → result ≡ reg_found (source_for (sheet_in t.now) (source_of «from») v.0 (record_in rec.now)) }
+) -> Option<PhysReg>
+    ensures { Ready t.now → Filled (sheet_in t.now) classes.now
+        → result ≡ reg_found (source_for (sheet_in t.now) (source_of «from») v.0 (record_of rec.now)) }
 {
     match from {
-        Source::Nothing => FoundReg::Nothing,
-        Source::At(p) => {
-            if in_memory(t, p) {
-                lowest_holding(t, rec, classes, ALL, v)
-            } else {
-                FoundReg::Nothing
-            }
-        }
+        Some(p) if in_memory(t, p) => lowest_holding(t, rec, classes, ALL, v),
+        _ => None,
     }
 }
 
 // What becomes of a move or remat in block b.
-fn decide(t: &[u32], rec: &[u32; LENGTH], classes: &[u64; WORDS], b: Block, a: Arrival) -> Fate
-    ensures { Ready t.now → Long rec.now → Filled (sheet_in t.now) classes.now → result ≡ fate_of (sheet_in t.now) b.0 a (record_in rec.now) }
+#[tactic(auto, unfolding(crate::specs::Moves::fate_of), using(crate::proofs::Deciding::found_reg, crate::proofs::Deciding::found_none))]
+fn decide(t: &[u32], rec: &WalkRecord, classes: &[u64; WORDS], b: Block, a: Arrival) -> Fate
+    ensures { Ready t.now → Filled (sheet_in t.now) classes.now → result ≡ fate_of (sheet_in t.now) b.0 a (record_of rec.now) }
 {
-    let to = a.to;
-    let from = a.from;
-    let v = a.value;
-    if already(rec, to, v) || spilled_above(t, rec, b, to, v) {
-        return Fate::Removed(removal(t, to, from));
+    if already(rec, a.to, a.value) || spilled_above(t, rec, b, a.to, a.value) {
+        return Fate::Removed(removal(t, a.to, a.from));
     }
-    match new_source(t, rec, classes, from, v) {
-        FoundReg::At(r) => Fate::Sourced(r),
-        FoundReg::Nothing => Fate::Kept,
+    match new_source(t, rec, classes, a.from, a.value) {
+        Some(r) => Fate::Sourced(r),
+        None => Fate::Kept,
     }
 }
 
@@ -164,39 +143,41 @@ fn rewrite(edits: &mut [u32], counts: &mut [u32], j: EditRow, a: Arrival, fate: 
             tally(counts, k);
         }
         Fate::Sourced(r) => {
-            let to = a.to;
-            let value = a.value;
-            let from = Place::reg(r);
-            store_edit(edits, j, Edit::Move { to, from, value });
+            let edit = Edit::Move {
+                to: a.to,
+                from: Place::reg(r),
+                value: a.value,
+            };
+            store_edit(edits, j, edit);
             tally(counts, Count::RELOAD_TO_MOVE);
         }
     }
 }
 
 // The record after a move or remat that stays.
-fn settle(t: &[u32], rec: &mut [u32; LENGTH], b: Block, a: Arrival)
-    ensures { Long rec.old → Becomes rec.old rec.new (settled (sheet_in t.now) b.0 a (record_in rec.old)) }
+#[tactic(auto, unfolding(crate::specs::Moves::settled))]
+fn settle(t: &[u32], rec: &mut WalkRecord, b: Block, a: Arrival)
+    ensures { record_of rec.new ≡ settled (sheet_in t.now) b.0 a (record_of rec.old) }
 {
-    let to = a.to;
-    let v = a.value;
-    note_spill(t, rec, b, to, v);
-    arrive(t, rec, v, to);
+    note_spill(t, rec, b, a.to, a.value);
+    rec.arrive(t, a.value, a.to);
 }
 
-fn record_fate(t: &[u32], rec: &mut [u32; LENGTH], b: Block, a: Arrival, fate: Fate)
-    ensures { Long rec.old → Becomes rec.old rec.new (fated_record (sheet_in t.now) b.0 a fate (record_in rec.old)) }
+#[tactic(auto, unfolding(crate::specs::Moves::fated_record))]
+fn record_fate(t: &[u32], rec: &mut WalkRecord, b: Block, a: Arrival, fate: Fate)
+    ensures { record_of rec.new ≡ fated_record (sheet_in t.now) b.0 a fate (record_of rec.old) }
 {
     match fate {
         Fate::Removed(_) => {}
-        Fate::Kept => settle(t, rec, b, a),
-        Fate::Sourced(_) => settle(t, rec, b, a),
+        Fate::Kept | Fate::Sourced(_) => settle(t, rec, b, a),
     }
 }
 
 // A move or remat, row j of the edits.
+// Stays: the parameters one by one, here and below; a struct of all the tables would lend the places, which no edit reads, and promise of each call that they stay: no plainer.
 fn optimise_move(
     t: &[u32],
-    rec: &mut [u32; LENGTH],
+    rec: &mut WalkRecord,
     classes: &[u64; WORDS],
     edits: &mut [u32],
     counts: &mut [u32],
@@ -214,10 +195,10 @@ fn optimise_move(
     record_fate(t, rec, b, a, fate);
 }
 
-// An edit, row j. Two matches of two arms each: with one match of six the compiler copies the lent record once more.
+// An edit, row j.
 fn optimise_edit(
     t: &[u32],
-    rec: &mut [u32; LENGTH],
+    rec: &mut WalkRecord,
     classes: &[u64; WORDS],
     edits: &mut [u32],
     counts: &mut [u32],
@@ -231,34 +212,26 @@ fn optimise_edit(
         Edit::Move { to, from, value } => {
             let a = Arrival {
                 to,
-                from: Source::At(from),
+                from: Some(from),
                 value,
             };
             optimise_move(t, rec, classes, edits, counts, b, j, a)
         }
-        _ => match e {
-            Edit::Remat { to, value } => {
-                let a = Arrival {
-                    to,
-                    from: Source::Nothing,
-                    value,
-                };
-                optimise_move(t, rec, classes, edits, counts, b, j, a)
-            }
-            _ => effect(t, rec, e),
-        },
+        Edit::Remat { to, value } => {
+            let a = Arrival {
+                to,
+                from: None,
+                value,
+            };
+            optimise_move(t, rec, classes, edits, counts, b, j, a)
+        }
+        _ => rec.effect(t, e),
     }
-}
-
-// The record of a walk as one value.
-#[derive(Clone, Copy)]
-pub struct WalkRecord {
-    pub cells: [u32; LENGTH],
 }
 
 // An edit with the record by value.
 fn stepped(
-    rec: WalkRecord,
+    mut rec: WalkRecord,
     t: &[u32],
     classes: &[u64; WORDS],
     edits: &mut [u32],
@@ -266,11 +239,10 @@ fn stepped(
     b: Block,
     j: EditRow,
 ) -> WalkRecord
-    ensures { Optimises t.now classes.now rec.cells edits.old counts.old result.cells edits.new counts.new b.0 j.0 }
+    ensures { Optimises t.now classes.now rec edits.old counts.old result edits.new counts.new b.0 j.0 }
 {
-    let mut r = rec;
-    optimise_edit(t, &mut r.cells, classes, edits, counts, b, j);
-    r
+    optimise_edit(t, &mut rec, classes, edits, counts, b, j);
+    rec
 }
 
 // The record is lent to one edit step.
@@ -283,50 +255,15 @@ fn step(
     b: Block,
     j: EditRow,
 )
-    ensures { Optimises t.now classes.now rec.old.cells edits.old counts.old rec.new.cells edits.new counts.new b.0 j.0 }
+    ensures lent { Optimises t.now classes.now rec.old edits.old counts.old rec.new edits.new counts.new b.0 j.0 }
 {
     *rec = stepped(*rec, t, classes, edits, counts, b, j);
-}
-
-// The owner of the record lends it, and has it again after the step.
-fn lent_step(
-    rec: WalkRecord,
-    t: &[u32],
-    classes: &[u64; WORDS],
-    edits: &mut [u32],
-    counts: &mut [u32],
-    b: Block,
-    j: EditRow,
-) -> WalkRecord
-    ensures { Optimises t.now classes.now rec.cells edits.old counts.old result.cells edits.new counts.new b.0 j.0 }
-{
-    let mut own = rec;
-    step(&mut own, t, classes, edits, counts, b, j);
-    own
-}
-
-// The step on the table of the record.
-fn step_cells(
-    t: &[u32],
-    rec: &mut [u32; LENGTH],
-    classes: &[u64; WORDS],
-    edits: &mut [u32],
-    counts: &mut [u32],
-    b: Block,
-    j: EditRow,
-)
-    ensures { Optimises t.now classes.now rec.old edits.old counts.old rec.new edits.new counts.new b.0 j.0 }
-{
-    let before = WalkRecord { cells: *rec };
-    let after = lent_step(before, t, classes, edits, counts, b, j);
-    let cells = after.cells;
-    *rec = cells;
 }
 
 // The edits at instruction i, in list order.
 pub fn optimise_edits(
     t: &[u32],
-    rec: &mut [u32; LENGTH],
+    rec: &mut WalkRecord,
     classes: &[u64; WORDS],
     edits: &mut [u32],
     counts: &mut [u32],
@@ -338,24 +275,17 @@ pub fn optimise_edits(
         → Walked t.now rec.new edits.new places counts.new n (run (optimise_edit (sheet_in t.now) b.0) w (edits_at (sheet_in t.now) i.0)) }
 {
     let rows = edit_rows(t, i);
-    let to = rows.to;
-    let mut j = rows.from;
-    while j < to {
-        step_cells(t, rec, classes, edits, counts, b, EditRow(j));
-        j += 1;
+    for j in rows.from..rows.to {
+        step(rec, t, classes, edits, counts, b, EditRow(j));
     }
 }
 
 // The same in the preparing walk, which alters no edit.
-pub fn prepare_edits(t: &[u32], rec: &mut [u32; LENGTH], edits: &[u32], i: Inst)
-    ensures { Ordered t.now → Long rec.old
-        → Becomes rec.old rec.new (run (λ u j. effect (sheet_in t.now) (get_or (edits_in edits.now (length (sheet_in t.now).edits)) j Edit.Nothing) u) (record_in rec.old) (edits_at (sheet_in t.now) i.0)) }
+pub fn prepare_edits(t: &[u32], rec: &mut WalkRecord, edits: &[u32], i: Inst)
+    ensures { Ordered t.now → record_of rec.new ≡ run (λ u j. effect (sheet_in t.now) (get_or (edits_in edits.now (length (sheet_in t.now).edits)) j Edit.Nothing) u) (record_of rec.old) (edits_at (sheet_in t.now) i.0) }
 {
     let rows = edit_rows(t, i);
-    let to = rows.to;
-    let mut j = rows.from;
-    while j < to {
-        effect(t, rec, read_edit(edits, EditRow(j)));
-        j += 1;
+    for j in rows.from..rows.to {
+        rec.effect(t, read_edit(edits, EditRow(j)));
     }
 }

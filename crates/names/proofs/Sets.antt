@@ -16,16 +16,6 @@ use Rattle.bits.specs.Sets.{has, set_of, set_limit, IsSet}
 use Rattle.bits.proofs.Members.{has_set_of, is_set_lem, is_set_of, set_of_same}
 use Rattle.table.proofs.Loops.{and_left, and_right}
 
--- whether one of a list was found before the i-th or passes from there on
-module _ (f : ℕ → Bool) (found : Bool) (l : List ℕ) (i : ℕ) where
-  pub found_next : i < length l → ((found || f (get_or l i 0)) || any f (drop (i + 1) l)) ≡ (found || any f (drop i l))
-  unfolding any
-  found_next h = rw (drop-cons l i 0 h, add-one) (or_assoc found (f (get_or l i 0)) (any f (drop (suc i) l)))
-
-  pub found_end : length l ≤ i → found ≡ (found || any f (drop i l))
-  unfolding any
-  found_end h = rw (drop_of_length-le l h) (sym (or-false found))
-
 -- s with what the members of l from the i-th on add is all: member x adds the k of which q k x is true
 pub record Growing {A : Type 0} (q : ℕ → A → Bool) (l : List A) (all : NumberSet) (i : ℕ) (s : NumberSet) : Type 0 where
   pub set : IsSet s
@@ -33,7 +23,6 @@ pub record Growing {A : Type 0} (q : ℕ → A → Bool) (l : List A) (all : Num
 
 module _ {A : Type 0} {q : ℕ → A → Bool} {l : List A} {every : NumberSet} {i : ℕ} {s : NumberSet} (g : Growing q l every i s) where
   pub grow_next : (d : A) {s' : NumberSet} → i < length l → s' ≡ set_of (λ k. has s k || q k (get_or l i d)) → Growing q l every (i + 1) s'
-  unfolding any
   grow_next d {s'} h e =
       record {
         set = rw e (is_set_lem (λ k. has s k || q k (get_or l i d)));
@@ -44,7 +33,6 @@ module _ {A : Type 0} {q : ℕ → A → Bool} {l : List A} {every : NumberSet} 
       }
 
   pub grow_end : length l ≤ i → s ≡ every
-  unfolding any
   grow_end h = is_set_of (λ k. has s k || any (q k) (drop i l)) s g.set (λ k b. rw (drop_of_length-le l h) (sym (or-false (has s k)))) ∙ g.rest
 
 -- ---- a list all below the limit of sets
@@ -54,26 +42,22 @@ below l = all (λ x. ltb x set_limit) l
 
 module _ {A : Type 0} (p : A → Bool) where
   pub all_drop : (l : List A) (i : ℕ) → all p l ≡ true → all p (drop i l) ≡ true
-  unfolding all
   all_drop l zero e = e
   all_drop [] (suc i) e = refl
   all_drop (x ∷ l) (suc i) e = all_drop l i (and_right (p x) (all p l) e)
 
   -- a test that is stronger on each
   pub all_more : (q : A → Bool) → ((x : A) → p x ≡ true → q x ≡ true) → (l : List A) → all p l ≡ true → all q l ≡ true
-  unfolding all
   all_more q h [] e = refl
   all_more q h (x ∷ l) e = rw (h x (and_left (p x) (all p l) e), all_more q h l (and_right (p x) (all p l) e))
 
 -- two tests that agree on what passes a third
 module _ {A : Type 0} (p f g : A → Bool) (h : (x : A) → p x ≡ true → f x ≡ g x) where
   pub all_on : (l : List A) → all p l ≡ true → all f l ≡ all g l
-  unfolding all
   all_on [] e = refl
   all_on (x ∷ l) e = rw (h x (and_left (p x) (all p l) e), all_on l (and_right (p x) (all p l) e))
 
   pub any_on : (l : List A) → all p l ≡ true → any f l ≡ any g l
-  unfolding all any
   any_on [] e = refl
   any_on (x ∷ l) e = rw (h x (and_left (p x) (all p l) e), any_on l (and_right (p x) (all p l) e))
 
@@ -85,17 +69,15 @@ module _ (f : ℕ → Bool) (l : List ℕ) (e : below l ≡ true) where
   any_set_of = any_on (λ x. ltb x set_limit) (has (set_of f)) f (λ x h. has_set_of f x (ltb-true x set_limit h)) l e
 
 any_or : (f g : ℕ → Bool) (l : List ℕ) → any (λ x. f x || g x) l ≡ (any f l || any g l)
-unfolding any
 any_or f g [] = refl
 any_or f g (x ∷ l) = by_bool (f x) (λ a. rw a) (λ a. by_bool (g x) (λ b. rw (a, b) (sym (or-true (any f l)))) (λ b. rw (a, b) (any_or f g l)))
 
 any_none : (l : List ℕ) → any (λ x. false) l ≡ false
-unfolding any
 any_none [] = refl
 any_none (x ∷ l) = any_none l
 
-in_turn : (x : ℕ) (l : List ℕ) → any (λ k. eqb k x) l ≡ is_in x l
-unfolding is_in any
+pub in_turn : (x : ℕ) (l : List ℕ) → any (λ k. eqb k x) l ≡ is_in x l
+unfolding is_in
 in_turn x [] = refl
 in_turn x (y ∷ l) = rw (eqb_same y x x y sym sym, in_turn x l)
 
@@ -110,11 +92,11 @@ module _ (l : List ℕ) (e : below l ≡ true) where
 
 module _ (s : NumberSet) (l : List ℕ) (i : ℕ) where
   pub twice_found : i < length l → has s (get_or l i 0) ≡ true → again s (drop i l) ≡ true
-  unfolding again any
+  unfolding again
   twice_found h q = rw (drop-cons l i 0 h, q)
 
   pub twice_next : below l ≡ true → i < length l → has s (get_or l i 0) ≡ false → {s' : NumberSet} → s' ≡ set_of (λ k. has s k || eqb k (get_or l i 0)) → again s' (drop (i + 1) l) ≡ again s (drop i l)
-  unfolding again any twice
+  unfolding again twice
   twice_next e h q {s'} z =
       let r = drop (suc i) l in
       let x = get_or l i 0 in
@@ -122,7 +104,7 @@ module _ (s : NumberSet) (l : List ℕ) (i : ℕ) where
       (or_assoc (any (has s) r) (is_in x r) (twice r))
 
   pub twice_end : length l ≤ i → again s (drop i l) ≡ false
-  unfolding again any twice
+  unfolding again twice
   twice_end h = rw (drop_of_length-le l h)
 
 -- before the first turn, from nothing

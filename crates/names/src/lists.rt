@@ -9,27 +9,14 @@ use bits::sets::NumberSet;
 pub(crate) fn all_below(list: &[u32], limit: u32) -> bool
     ensures { result ≡ all (λ x. ltb x limit) list.now }
 {
-    let mut i: usize = 0;
-    while i < list.len() {
-        if list[i] >= limit {
-            return false;
-        }
-        i += 1;
-    }
-    true
+    list.iter().all(|x| *x < limit)
 }
 
 // x is one of them.
 pub fn is_in(x: u32, list: &[u32]) -> bool
     ensures { result ≡ is_in x list.now }
 {
-    let mut found = false;
-    let mut i: usize = 0;
-    while i < list.len() {
-        found = found | (x == list[i]);
-        i += 1;
-    }
-    found
+    list.contains(&x)
 }
 
 // One of them stands twice, where all are below `NumberSet::LIMIT`.
@@ -37,14 +24,11 @@ pub(crate) fn stands_twice(list: &[u32]) -> bool
     ensures { all (λ x. ltb x set_limit) list.now ≡ true → result ≡ twice list.now }
 {
     let mut seen = NumberSet::empty();
-    let mut i: usize = 0;
-    while i < list.len() {
-        let x = list[i];
-        if seen.contains(x) {
+    for x in list {
+        if seen.contains(*x) {
             return true;
         }
-        seen = seen.insert(x);
-        i += 1;
+        seen = seen.insert(*x);
     }
     false
 }
@@ -53,30 +37,14 @@ pub(crate) fn stands_twice(list: &[u32]) -> bool
 pub(crate) fn all_in(list: &[u32], s: NumberSet) -> bool
     ensures { result ≡ all (has s) list.now }
 {
-    let mut i: usize = 0;
-    while i < list.len() {
-        let x = list[i];
-        if !s.contains(x) {
-            return false;
-        }
-        i += 1;
-    }
-    true
+    list.iter().all(|x| s.contains(*x))
 }
 
 // One of them is in the set.
 pub fn any_in(list: &[u32], s: NumberSet) -> bool
     ensures { result ≡ any (has s) list.now }
 {
-    let mut i: usize = 0;
-    while i < list.len() {
-        let x = list[i];
-        if s.contains(x) {
-            return true;
-        }
-        i += 1;
-    }
-    false
+    list.iter().any(|x| s.contains(*x))
 }
 
 // The set with each of them.
@@ -84,11 +52,8 @@ pub fn with_all(s: NumberSet, list: &[u32]) -> NumberSet
     ensures { result ≡ set_of (λ k. has s k || is_in k list.now) }
 {
     let mut grown = s;
-    let mut i: usize = 0;
-    while i < list.len() {
-        let x = list[i];
-        grown = grown.insert(x);
-        i += 1;
+    for x in list {
+        grown = grown.insert(*x);
     }
     grown
 }

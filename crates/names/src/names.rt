@@ -14,29 +14,21 @@ ghost use Rattle.names.specs.Steps.{group_named, edge_named, param_named, op_nam
 use crate::limits::inst_total;
 use crate::lists::{all_below, all_in, stands_twice, with_all};
 use bits::sets::NumberSet;
-use bits::tables::read_u32;
+use bits::tables::read;
 use entity::forms::{Constraint, Edit, OperandKind, Place};
 use entity::numbers::{
     Block, EditRow, OperandRow, ParamRow, PhysReg, RegClass, RegGroup, SpillSlot, Value, ValueGroup,
 };
-use entity::sets::{FoundBlock, UnitSet};
+use entity::sets::UnitSet;
 use operands::headed_by;
 use table::edits::sheet_edit;
 use table::rows::{Kind, count, rest, row_of};
 use table::view::{
-    FoundSlot, edit_at, group_class, group_regs, group_values, home, idom, members, operand_at,
-    param_at, slot_count, units,
+    edit_at, group_class, group_regs, group_values, home, idom, members, operand_at, param_at,
+    slot_count, units,
 };
 
-fn both(a: bool, b: bool) -> bool
-    ensures { result ≡ (a && b) }
-{
-    if a {
-        return b;
-    }
-    false
-}
-
+// Stays: the five that follow differ in the type of their number and in its kind; a trait that gives each type its kind is no plainer.
 fn reg_exists(t: &[u32], r: PhysReg) -> bool
     ensures { result ≡ reg_exists (sheet_in t.now) r.0 }
 {
@@ -86,12 +78,10 @@ fn subject_exists(t: &[u32], k: OperandKind) -> bool
     ensures { result ≡ subject_exists (sheet_in t.now) k }
 {
     match k {
-        OperandKind::Def(v) => value_exists(t, v),
-        OperandKind::Use(v) => value_exists(t, v),
-        OperandKind::EarlyDef(v) => value_exists(t, v),
-        OperandKind::DefGroup(g) => vgroup_exists(t, g),
-        OperandKind::UseGroup(g) => vgroup_exists(t, g),
-        OperandKind::EarlyDefGroup(g) => vgroup_exists(t, g),
+        OperandKind::Def(v) | OperandKind::Use(v) | OperandKind::EarlyDef(v) => value_exists(t, v),
+        OperandKind::DefGroup(g) | OperandKind::UseGroup(g) | OperandKind::EarlyDefGroup(g) => {
+            vgroup_exists(t, g)
+        }
         OperandKind::NonAllocatable => true,
     }
 }
@@ -111,14 +101,13 @@ fn edit_names(t: &[u32], e: Edit) -> bool
     ensures { result ≡ edit_names (sheet_in t.now) e }
 {
     match e {
-        Edit::Move { to, from, value } => both(
-            both(place_exists(t, to), place_exists(t, from)),
-            value_exists(t, value),
-        ),
-        Edit::Remat { to, value } => both(place_exists(t, to), value_exists(t, value)),
-        Edit::Espill { to, from } => both(slot_exists(t, to), reg_exists(t, from)),
-        Edit::Ereload { to, from } => both(reg_exists(t, to), slot_exists(t, from)),
-        Edit::Misplaced { to, from } => both(place_exists(t, to), place_exists(t, from)),
+        Edit::Move { to, from, value } => {
+            place_exists(t, to) && place_exists(t, from) && value_exists(t, value)
+        }
+        Edit::Remat { to, value } => place_exists(t, to) && value_exists(t, value),
+        Edit::Espill { to, from } => slot_exists(t, to) && reg_exists(t, from),
+        Edit::Ereload { to, from } => reg_exists(t, to) && slot_exists(t, from),
+        Edit::Misplaced { to, from } => place_exists(t, to) && place_exists(t, from),
         Edit::Nothing => true,
     }
 }
@@ -127,14 +116,11 @@ fn edit_names(t: &[u32], e: Edit) -> bool
 fn all_units(t: &[u32]) -> UnitSet
     ensures { result.0 ≡ set_of (unit_exists (sheet_in t.now)) }
 {
-    let regs = count(t, Kind::REG);
     let mut seen = NumberSet::empty();
-    let mut r: u32 = 0;
-    while r < regs {
+    for r in 0..count(t, Kind::REG) {
         seen = with_all(seen, units(t, PhysReg(r)));
-        r += 1;
     }
-    UnitSet(seen)
+    UnitSet::of(seen)
 }
 
 fn class_named(t: &[u32], c: RegClass) -> bool
@@ -146,59 +132,34 @@ fn class_named(t: &[u32], c: RegClass) -> bool
 fn classes_named(t: &[u32]) -> bool
     ensures { result ≡ all (λ c. all (reg_exists (sheet_in t.now)) c.members) (sheet_in t.now).classes }
 {
-    let rows = count(t, Kind::CLASS);
-    let mut c: u32 = 0;
-    while c < rows {
-        if !class_named(t, RegClass(c)) {
-            return false;
-        }
-        c += 1;
-    }
-    true
+    (0..count(t, Kind::CLASS)).all(|c| class_named(t, RegClass(c)))
 }
 
 fn group_named(t: &[u32], g: RegGroup) -> bool
     ensures { result ≡ group_named (sheet_in t.now) (group_row (sheet_in t.now) g.0) }
 {
-    let regs = all_below(group_regs(t, g), count(t, Kind::REG));
-    both(class_exists(t, group_class(t, g)), regs)
+    class_exists(t, group_class(t, g)) && all_below(group_regs(t, g), count(t, Kind::REG))
 }
 
 fn groups_named(t: &[u32]) -> bool
     ensures { result ≡ all (group_named (sheet_in t.now)) (sheet_in t.now).groups }
 {
-    let rows = count(t, Kind::GROUP);
-    let mut g: u32 = 0;
-    while g < rows {
-        if !group_named(t, RegGroup(g)) {
-            return false;
-        }
-        g += 1;
-    }
-    true
+    (0..count(t, Kind::GROUP)).all(|g| group_named(t, RegGroup(g)))
 }
 
 fn home_named(t: &[u32], v: Value) -> bool
     ensures { result ≡ Option-elim (home_of (sheet_in t.now) v.0) true (slot_exists (sheet_in t.now)) }
 {
     match home(t, v) {
-        FoundSlot::At(s) => slot_exists(t, s),
-        FoundSlot::Nothing => true,
+        Some(s) => slot_exists(t, s),
+        None => true,
     }
 }
 
 fn homes_named(t: &[u32]) -> bool
     ensures { result ≡ all (λ h. Option-elim h true (slot_exists (sheet_in t.now))) (sheet_in t.now).values }
 {
-    let rows = count(t, Kind::VALUE);
-    let mut v: u32 = 0;
-    while v < rows {
-        if !home_named(t, Value(v)) {
-            return false;
-        }
-        v += 1;
-    }
-    true
+    (0..count(t, Kind::VALUE)).all(|v| home_named(t, Value(v)))
 }
 
 fn vgroup_named(t: &[u32], g: ValueGroup) -> bool
@@ -210,97 +171,49 @@ fn vgroup_named(t: &[u32], g: ValueGroup) -> bool
 fn vgroups_named(t: &[u32]) -> bool
     ensures { result ≡ all (λ g. all (value_exists (sheet_in t.now)) g) (sheet_in t.now).vgroups }
 {
-    let rows = count(t, Kind::VGROUP);
-    let mut g: u32 = 0;
-    while g < rows {
-        if !vgroup_named(t, ValueGroup(g)) {
-            return false;
-        }
-        g += 1;
-    }
-    true
+    (0..count(t, Kind::VGROUP)).all(|g| vgroup_named(t, ValueGroup(g)))
 }
 
 fn idom_named(t: &[u32], b: Block) -> bool
     ensures { result ≡ Option-elim (block_row (sheet_in t.now) b.0).idom true (block_exists (sheet_in t.now)) }
 {
     match idom(t, b) {
-        FoundBlock::At(i) => block_exists(t, i),
-        FoundBlock::Nothing => true,
+        Some(i) => block_exists(t, i),
+        None => true,
     }
 }
 
 fn idoms_named(t: &[u32]) -> bool
     ensures { result ≡ all (λ b. Option-elim b.idom true (block_exists (sheet_in t.now))) (sheet_in t.now).blocks }
 {
-    let rows = count(t, Kind::BLOCK);
-    let mut b: u32 = 0;
-    while b < rows {
-        if !idom_named(t, Block(b)) {
-            return false;
-        }
-        b += 1;
-    }
-    true
+    (0..count(t, Kind::BLOCK)).all(|b| idom_named(t, Block(b)))
 }
 
 // A `succ` or `pred` row.
 fn edge_named(t: &[u32], row: &[u32]) -> bool
     ensures { result ≡ edge_named (sheet_in t.now) (list_row row.now) }
 {
-    let list = all_below(rest(row, 2), count(t, Kind::BLOCK));
-    both(block_exists(t, Block(read_u32(row, 1))), list)
+    block_exists(t, Block(read(row, 1, 0))) && all_below(rest(row, 2), count(t, Kind::BLOCK))
 }
 
-fn succs_named(t: &[u32]) -> bool
-    ensures { result ≡ all (edge_named (sheet_in t.now)) (sheet_in t.now).succs }
+// The rows of one of these kinds.
+fn edges_named(t: &[u32], k: Kind) -> bool
+    ensures { result ≡ all (λ r. edge_named (sheet_in t.now) (list_row r)) (rows_at t.now k.0) }
 {
-    let rows = count(t, Kind::SUCC);
-    let mut n: u32 = 0;
-    while n < rows {
-        if !edge_named(t, row_of(t, Kind::SUCC, n)) {
-            return false;
-        }
-        n += 1;
-    }
-    true
-}
-
-fn preds_named(t: &[u32]) -> bool
-    ensures { result ≡ all (edge_named (sheet_in t.now)) (sheet_in t.now).preds }
-{
-    let rows = count(t, Kind::PRED);
-    let mut n: u32 = 0;
-    while n < rows {
-        if !edge_named(t, row_of(t, Kind::PRED, n)) {
-            return false;
-        }
-        n += 1;
-    }
-    true
+    (0..count(t, k)).all(|n| edge_named(t, row_of(t, k, n)))
 }
 
 fn param_named(t: &[u32], n: ParamRow) -> bool
     ensures { result ≡ param_named (sheet_in t.now) (param_row (sheet_in t.now) n.0) }
 {
     let p = param_at(t, n);
-    let place = p.place;
-    let names = both(block_exists(t, p.at), value_exists(t, p.value));
-    both(names, place_exists(t, place))
+    block_exists(t, p.at) && value_exists(t, p.value) && place_exists(t, p.place)
 }
 
 fn params_named(t: &[u32]) -> bool
     ensures { result ≡ all (param_named (sheet_in t.now)) (sheet_in t.now).params }
 {
-    let rows = count(t, Kind::PARAM);
-    let mut n: u32 = 0;
-    while n < rows {
-        if !param_named(t, ParamRow(n)) {
-            return false;
-        }
-        n += 1;
-    }
-    true
+    (0..count(t, Kind::PARAM)).all(|n| param_named(t, ParamRow(n)))
 }
 
 // Where there are `insts` instructions; so below.
@@ -308,202 +221,103 @@ fn op_named(t: &[u32], insts: u32, n: OperandRow) -> bool
     ensures { result ≡ op_named (sheet_in t.now) insts (op_row (sheet_in t.now) n.0) }
 {
     let o = operand_at(t, n);
-    let i = o.at;
-    let kind = o.kind;
-    let constraint = o.constraint;
-    let place = o.place;
-    let subject = both(i.0 < insts, subject_exists(t, kind));
-    let names = both(subject, constraint_exists(t, constraint));
-    both(names, place_exists(t, place))
+    o.at.0 < insts
+        && subject_exists(t, o.kind)
+        && constraint_exists(t, o.constraint)
+        && place_exists(t, o.place)
 }
 
 fn ops_named(t: &[u32], insts: u32) -> bool
     ensures { result ≡ all (op_named (sheet_in t.now) insts) (sheet_in t.now).ops }
 {
-    let rows = count(t, Kind::OP);
-    let mut n: u32 = 0;
-    while n < rows {
-        if !op_named(t, insts, OperandRow(n)) {
-            return false;
-        }
-        n += 1;
-    }
-    true
+    (0..count(t, Kind::OP)).all(|n| op_named(t, insts, OperandRow(n)))
 }
 
 fn clob_named(t: &[u32], insts: u32, units: UnitSet, n: u32) -> bool
     ensures { result ≡ clob_named (has units.0) insts (list_row (kind_row t.now 11 n)) }
 {
     let row = row_of(t, Kind::CLOB, n);
-    let s = units.0;
-    both(read_u32(row, 1) < insts, all_in(rest(row, 2), s))
+    read(row, 1, 0) < insts && all_in(rest(row, 2), units.0)
 }
 
 fn clobs_named(t: &[u32], insts: u32, units: UnitSet) -> bool
     ensures { result ≡ all (clob_named (has units.0) insts) (sheet_in t.now).clobs }
 {
-    let rows = count(t, Kind::CLOB);
-    let mut n: u32 = 0;
-    while n < rows {
-        if !clob_named(t, insts, units, n) {
-            return false;
-        }
-        n += 1;
-    }
-    true
+    (0..count(t, Kind::CLOB)).all(|n| clob_named(t, insts, units, n))
 }
 
 fn edit_named(t: &[u32], insts: u32, n: EditRow) -> bool
     ensures { result ≡ edit_named (sheet_in t.now) insts (edit_row (sheet_in t.now) n.0) }
 {
-    let i = edit_at(t, n);
-    both(i.0 < insts, edit_names(t, sheet_edit(t, n)))
+    edit_at(t, n).0 < insts && edit_names(t, sheet_edit(t, n))
 }
 
 fn edits_named(t: &[u32], insts: u32) -> bool
     ensures { result ≡ all (edit_named (sheet_in t.now) insts) (sheet_in t.now).edits }
 {
-    let rows = count(t, Kind::EDIT);
-    let mut n: u32 = 0;
-    while n < rows {
-        if !edit_named(t, insts, EditRow(n)) {
-            return false;
-        }
-        n += 1;
-    }
-    true
+    (0..count(t, Kind::EDIT)).all(|n| edit_named(t, insts, EditRow(n)))
 }
 
 fn machine_named(t: &[u32]) -> bool
     ensures { result ≡ machine_named (sheet_in t.now) }
 {
-    if !classes_named(t) {
-        return false;
-    }
-    if !groups_named(t) {
-        return false;
-    }
-    if !homes_named(t) {
-        return false;
-    }
-    vgroups_named(t)
+    classes_named(t) && groups_named(t) && homes_named(t) && vgroups_named(t)
 }
 
 fn code_named(t: &[u32], insts: u32, units: UnitSet) -> bool
     ensures { result ≡ code_named (sheet_in t.now) (has units.0) insts }
 {
-    if !ops_named(t, insts) {
-        return false;
-    }
-    if !clobs_named(t, insts, units) {
-        return false;
-    }
-    edits_named(t, insts)
+    ops_named(t, insts) && clobs_named(t, insts, units) && edits_named(t, insts)
 }
 
 // A row names nothing that is absent.
 fn all_named(t: &[u32]) -> bool
     ensures { within_limits (sheet_in t.now) ≡ true → result ≡ all_named (sheet_in t.now) }
 {
-    if !machine_named(t) {
-        return false;
-    }
-    if !idoms_named(t) {
-        return false;
-    }
-    if !succs_named(t) {
-        return false;
-    }
-    if !preds_named(t) {
-        return false;
-    }
-    if !params_named(t) {
-        return false;
-    }
-    code_named(t, inst_total(t), all_units(t))
+    machine_named(t)
+        && idoms_named(t)
+        && edges_named(t, Kind::SUCC)
+        && edges_named(t, Kind::PRED)
+        && params_named(t)
+        && code_named(t, inst_total(t), all_units(t))
 }
 
 // No list of the kind, from field `from` on, has one thing twice.
 fn none_twice_in(t: &[u32], k: Kind, from: usize) -> bool
     ensures { all (λ r. all (λ y. ltb y set_limit) (drop from r)) (rows_at t.now k.0) ≡ true → result ≡ all (λ r. not (twice (drop from r))) (rows_at t.now k.0) }
 {
-    let rows = count(t, k);
-    let mut n: u32 = 0;
-    while n < rows {
-        if stands_twice(rest(row_of(t, k, n), from)) {
-            return false;
-        }
-        n += 1;
-    }
-    true
+    (0..count(t, k)).all(|n| !stands_twice(rest(row_of(t, k, n), from)))
 }
 
 fn none_twice(t: &[u32]) -> bool
     ensures { within_limits (sheet_in t.now) ≡ true → all_named (sheet_in t.now) ≡ true → result ≡ none_twice (sheet_in t.now) }
 {
-    if !none_twice_in(t, Kind::REG, 3) {
-        return false;
-    }
-    if !none_twice_in(t, Kind::CLASS, 3) {
-        return false;
-    }
-    if !none_twice_in(t, Kind::GROUP, 3) {
-        return false;
-    }
-    if !none_twice_in(t, Kind::VGROUP, 2) {
-        return false;
-    }
-    if !none_twice_in(t, Kind::SUCC, 2) {
-        return false;
-    }
-    if !none_twice_in(t, Kind::PRED, 2) {
-        return false;
-    }
-    none_twice_in(t, Kind::CLOB, 2)
+    none_twice_in(t, Kind::REG, 3)
+        && none_twice_in(t, Kind::CLASS, 3)
+        && none_twice_in(t, Kind::GROUP, 3)
+        && none_twice_in(t, Kind::VGROUP, 2)
+        && none_twice_in(t, Kind::SUCC, 2)
+        && none_twice_in(t, Kind::PRED, 2)
+        && none_twice_in(t, Kind::CLOB, 2)
 }
 
 // No later group has the class and the first register of group g.
 fn apart_from_later(t: &[u32], g: RegGroup) -> bool
     ensures { result ≡ not (any (headed_by (group_row (sheet_in t.now) g.0).class (get_or (group_row (sheet_in t.now) g.0).regs 0 0)) (drop (g.0 + 1) (sheet_in t.now).groups)) }
 {
-    let rows = count(t, Kind::GROUP);
-    if rows <= g.0 {
-        return true;
-    }
     let class = group_class(t, g);
-    let reg = PhysReg(read_u32(group_regs(t, g), 0));
-    let mut h: u32 = g.0 + 1;
-    while h < rows {
-        if headed_by(t, RegGroup(h), class, reg) {
-            return false;
-        }
-        h += 1;
-    }
-    true
+    let reg = PhysReg(read(group_regs(t, g), 0, 0));
+    !(g.0.saturating_add(1)..count(t, Kind::GROUP)).any(|h| headed_by(t, RegGroup(h), class, reg))
 }
 
 fn heads_apart(t: &[u32]) -> bool
     ensures { result ≡ heads_apart (sheet_in t.now).groups }
 {
-    let rows = count(t, Kind::GROUP);
-    let mut g: u32 = 0;
-    while g < rows {
-        if !apart_from_later(t, RegGroup(g)) {
-            return false;
-        }
-        g += 1;
-    }
-    true
+    (0..count(t, Kind::GROUP)).all(|g| apart_from_later(t, RegGroup(g)))
 }
 
 pub fn names_hold(t: &[u32]) -> bool
     ensures { within_limits (sheet_in t.now) ≡ true → result ≡ names_hold (sheet_in t.now) }
 {
-    if !all_named(t) {
-        return false;
-    }
-    if !none_twice(t) {
-        return false;
-    }
-    heads_apart(t)
+    all_named(t) && none_twice(t) && heads_apart(t)
 }

@@ -14,7 +14,6 @@ use Rattle.laws.proofs.Lists.{get_d_any}
 use Rattle.entity.specs.Limits.{inst_limit}
 use Rattle.entity.specs.declared.forms.Constraint.{Constraint}
 use Rattle.entity.specs.declared.forms.Constraint.TheVariants.{Class, Fixed, Reuse}
-use Rattle.entity.specs.declared.numbers.PhysReg.{PhysReg}
 use Rattle.entity.specs.declared.numbers.RegClass.{RegClass}
 use Rattle.entity.specs.declared.numbers.OperandIndex.{OperandIndex}
 use Rattle.rules.specs.Sheet.{Sheet, OpRow}
@@ -29,8 +28,8 @@ use Rattle.table.proofs.Sheets.{long_of, ops_are, rows_long}
 use Rattle.table.proofs.Ranges.{before_within}
 use Rattle.table.proofs.Lookups.{ops_of_lem}
 use Rattle.operands.specs.Operands.{as_row, operand_found, class_found, reused_class}
-use Rattle.operands.specs.declared.FoundOperand.{FoundOperand}
-use Rattle.operands.specs.declared.FoundClass.{FoundClass}
+use Rattle.std.specs.Prelude.{Some, None}
+use Rattle.std.specs.Prelude as Code
 
 -- ---- operand k of an instruction
 
@@ -81,41 +80,41 @@ module _ {t : List ℕ} (g : Ready t) (o : OpRow) (k : ℕ) (r : Range) (e : r �
       ∙ get_d_any (sheet_in t).ops (r.from + k) o _ (omega (arith, within g o.at r e))))
 
 module _ (t : List ℕ) (o : Operand) (k : ℕ) (r : Range) (e : r ≡ range_in t op_index inst_limit o.at.0) where
-  pub operand_none : r.to - r.from ≤ k → Ready t → FoundOperand.Nothing ≡ operand_found (operand (sheet_in t) (as_row o) k)
+  pub operand_none : r.to - r.from ≤ k → Ready t → None ≡ operand_found (operand (sheet_in t) (as_row o) k)
   unfolding operand_found as_row
   operand_none h g = rw (operand_no g (as_row o) k r e h)
 
-  pub operand_some : (u : Operand) → k < r.to - r.from → u ≡ operand_of (op_row (sheet_in t) (r.from + k)) → Ready t → FoundOperand.At u ≡ operand_found (operand (sheet_in t) (as_row o) k)
+  pub operand_some : (u : Operand) → k < r.to - r.from → u ≡ operand_of (op_row (sheet_in t) (r.from + k)) → Ready t → Some u ≡ operand_found (operand (sheet_in t) (as_row o) k)
   unfolding operand_found as_row
   operand_some u h q g = rw (operand_yes g (as_row o) k r e h, q)
 
 -- what is found, by the code's answers
-pub op_lost : (x : Option OpRow) → FoundOperand.Nothing ≡ operand_found x → x ≡ none
+pub op_lost : (x : Option OpRow) → None ≡ operand_found x → x ≡ none
 unfolding operand_found
 op_lost none q = refl
 op_lost (some y) q = absurd (let z : ◌≡◌ {A = ℕ} 0 1 = cc in omega arith)
 
-pub op_found : (x : Option OpRow) (u : Operand) → FoundOperand.At u ≡ operand_found x → x ≡ some (as_row u)
+pub op_found : (x : Option OpRow) (u : Operand) → Some u ≡ operand_found x → x ≡ some (as_row u)
 unfolding operand_found as_row
 op_found none u q = absurd (let z : ◌≡◌ {A = ℕ} 0 1 = cc in omega arith)
 op_found (some y) u q = let z : u ≡ operand_of y = cc in ap some (sym (ap as_row z))
 
-pub class_lost : (x : Option ℕ) → FoundClass.Nothing ≡ class_found x → x ≡ none
+pub class_lost : (x : Option ℕ) → None ≡ class_found x → x ≡ none
 unfolding class_found
 class_lost none q = refl
 class_lost (some y) q = absurd (let z : ◌≡◌ {A = ℕ} 0 1 = cc in omega arith)
 
-pub class_found_lem : (x : Option ℕ) (c : RegClass) → FoundClass.At c ≡ class_found x → x ≡ some c.0
+pub class_found_lem : (x : Option ℕ) (c : RegClass) → Some c ≡ class_found x → x ≡ some c.0
 unfolding class_found
 class_found_lem none c q = absurd (let z : ◌≡◌ {A = ℕ} 0 1 = cc in omega arith)
 class_found_lem (some y) c q = let z : c ≡ record { 0 = y } = cc in ap some (sym (ap (λ (c : RegClass). c.0) z))
 
-module _ {H : Type 0} (sh : Sheet) (o : Operand) (k : ℕ) {f : FoundOperand} (e : H → f ≡ operand_found (operand sh (as_row o) k)) where
-  pub reused_none : f ≡ FoundOperand.Nothing → H → FoundClass.Nothing ≡ class_found (reused_class sh (as_row o) k)
+module _ {H : Type 0} (sh : Sheet) (o : Operand) (k : ℕ) {f : Code.Option Operand} (e : H → f ≡ operand_found (operand sh (as_row o) k)) where
+  pub reused_none : f ≡ None → H → None ≡ class_found (reused_class sh (as_row o) k)
   unfolding reused_class class_found bind
   reused_none q g = rw (op_lost (operand sh (as_row o) k) (sym q ∙ e g))
 
-  pub reused_some : (u : Operand) (x : FoundClass) → f ≡ FoundOperand.At u → ((sh : Sheet) → x ≡ class_found (class_of sh u.constraint)) → H → x ≡ class_found (reused_class sh (as_row o) k)
+  pub reused_some : (u : Operand) (x : Code.Option RegClass) → f ≡ Some u → ((sh : Sheet) → x ≡ class_found (class_of sh u.constraint)) → H → x ≡ class_found (reused_class sh (as_row o) k)
   unfolding reused_class as_row bind
   reused_some u x q p g = rw (op_found (operand sh (as_row o) k) u (sym q ∙ e g)) (p sh)
 
@@ -128,18 +127,18 @@ class_by_lem : (sh : Sheet) (o : OpRow) → class_for sh o ≡ class_by sh o o.c
 unfolding class_for reused_class
 class_by_lem sh o = refl
 
+own_class : (sh : Sheet) (o : OpRow) (q : Constraint) → ((k : OperandIndex) → q ≡ Reuse k → ⊥) → class_of sh q ≡ class_by sh o q
+unfolding class_of
+own_class sh o (Class c) n = refl
+own_class sh o (Fixed r) n = refl
+own_class sh o (Reuse k) n = absurd (n k refl)
+
 module _ {H : Type 0} (sh : Sheet) (o : Operand) where
-  pub for_class : (c : RegClass) → o.constraint ≡ Class c → H → FoundClass.At c ≡ class_found (class_for sh (as_row o))
-  unfolding class_for as_row class_found
-  for_class c e g = rw e
+  -- no reuse: the class of the constraint
+  pub for_own : {x : Code.Option RegClass} → ((k : OperandIndex) → o.constraint ≡ Reuse k → ⊥) → ((sh : Sheet) → x ≡ class_found (class_of sh o.constraint)) → H → x ≡ class_found (class_for sh (as_row o))
+  unfolding as_row
+  for_own n p g = p sh ∙ ap class_found (own_class sh (as_row o) o.constraint n ∙ sym (class_by_lem sh (as_row o)))
 
-  pub for_fixed : (r : PhysReg) → o.constraint ≡ Fixed r → H → FoundClass.Nothing ≡ class_found (class_for sh (as_row o))
-  unfolding class_for as_row class_found
-  for_fixed r e g = rw e
-
-  pub for_reuse : (k : OperandIndex) (x : FoundClass) → o.constraint ≡ Reuse k → (H → x ≡ class_found (reused_class sh (as_row o) k.0)) → H → x ≡ class_found (class_for sh (as_row o))
+  pub for_reuse : (k : OperandIndex) (x : Code.Option RegClass) → o.constraint ≡ Reuse k → (H → x ≡ class_found (reused_class sh (as_row o) k.0)) → H → x ≡ class_found (class_for sh (as_row o))
   unfolding as_row
   for_reuse k x e p g = p g ∙ sym (ap class_found (class_by_lem sh (as_row o) ∙ ap (class_by sh (as_row o)) e))
-
-pub operand_back : (f u k : ℕ) → u ≤ f → u - f ≤ k
-operand_back f u k h = omega arith

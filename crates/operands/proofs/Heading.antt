@@ -3,13 +3,14 @@
 use mathlib.Core.Path.{◌≡◌, refl, sym, ap, ◌∙◌}
 use mathlib.Core.Bool.{Bool, true, false, not, ◌&&◌}
 use mathlib.Core.List.{List, [], ◌∷◌, flat_map, append-nil}
-use Prim.Native.Nat.{ℕ, zero, suc, ◌+◌, ◌≤◌, ◌<◌}
-use native.Mathlib.Numerals.{add-one}
+use Prim.Native.Nat.{ℕ, zero, suc, ◌≤◌, ◌<◌}
 use native.Mathlib.Omega.{arith}
 use lib.Dec.{eqb}
-use lib.ListN.{get_or, drop, drop_of_length-le, get_or-eq_default}
+use lib.ListN.{length, get_or, drop, drop_of_length-le, get_or-eq_default}
 use lib.Seq.{drop-cons, get_or-drop}
 use borrow.Author.Tests.{eq-eqb, ne_eqb, eqb-true, not-true}
+use Rattle.std.specs.Prelude.{Option, None, Some, MatchOption}
+use Rattle.std.specs.Option.{unwrap_or}
 use Rattle.laws.specs.Lists.{any, keep}
 use Rattle.laws.proofs.Cases.{by_bool}
 use Rattle.rules.specs.Sheet.{Sheet, GroupRow, field}
@@ -29,7 +30,7 @@ module _ (t : List ℕ) (g c r : ℕ) {l : List ℕ} (e : l ≡ kind_row t 3 g) 
   class_read : k ≡ (group_row (sheet_in t) g).class
   class_read = p ∙ ap (field 2) e ∙ class_is t g
 
-  pub other_class : (k ≡ c → ⊥) → false ≡ headed_by c r (group_row (sheet_in t) g)
+  pub other_class : (k ≡ c → ⊥) → eqb k c ≡ headed_by c r (group_row (sheet_in t) g)
   unfolding headed_by
   other_class n = rw (← class_read, ne_eqb k c n)
 
@@ -53,7 +54,7 @@ heads_later [] (suc i) e = e
 heads_later (x ∷ l) (suc i) e = heads_later l i (and_right (not (any (headed_by x.class (get_or x.regs 0 0)) l)) (heads_apart l) e)
 
 keep_none : {A : Type 0} (f : A → Bool) (l : List A) → any f l ≡ false → keep f l ≡ []
-unfolding any keep
+unfolding keep
 keep_none f [] e = refl
 keep_none f (x ∷ l) e = by_bool (f x) (λ p. never (sym e ∙ rw p)) (λ p. rw p (keep_none f l (sym (rw p) ∙ e)))
 
@@ -72,34 +73,41 @@ apart sh e = and_right (all_named sh && none_twice sh) (heads_apart sh.groups) e
 
 -- ---- the search: what remains has the same registers
 
-module _ (t : List ℕ) (c r g : ℕ) where
+module _ (t : List ℕ) (c r : ℕ) where
   abbrev groups : List GroupRow
   groups = (sheet_in t).groups
 
-  abbrev pub Left : Type 0
-  Left = flat_map (λ x. x.regs) (keep (headed_by c r) (drop g groups)) ≡ group_regs (sheet_in t) c r
+  abbrev Left : ℕ → Type 0
+  Left g = flat_map (λ x. x.regs) (keep (headed_by c r) (drop g groups)) ≡ group_regs (sheet_in t) c r
 
-  module _ {m : ℕ} (e : m ≡ count_in t 3) where
-    pub head_found : {b : Bool} → Left → b ≡ headed_by c r (group_row (sheet_in t) g) → b ≡ true → g < m → Ready t → (group_row (sheet_in t) g).regs ≡ group_regs (sheet_in t) c r
-    head_found inv q z h ready =
-        let s = drop-cons groups g _ (omega (arith, long_of (groups_are t))) in
-        sym (only_here c r (group_row (sheet_in t) g) (drop (suc g) groups) (sym q ∙ z) (sym (ap heads_apart s) ∙ heads_later groups g (apart (sheet_in t) ready.names)))
-        ∙ sym (ap (λ (l : List GroupRow). flat_map (λ x. x.regs) (keep (headed_by c r) l)) s) ∙ inv
+  -- the groups before n are headed otherwise
+  abbrev Others : ℕ → Type 0
+  Others n = (k : ℕ) → k < n → headed_by c r (group_row (sheet_in t) k) ≡ false
 
-    pub head_next : {b : Bool} → Left → b ≡ headed_by c r (group_row (sheet_in t) g) → b ≡ false → g < m → flat_map (λ x. x.regs) (keep (headed_by c r) (drop (g + 1) groups)) ≡ group_regs (sheet_in t) c r
-    unfolding keep
-    head_next inv q z h =
-        let s = drop-cons groups g (record { class = 0; regs = [] }) (omega (arith, long_of (groups_are t))) in
-        let f : headed_by c r (group_row (sheet_in t) g) ≡ false = sym q ∙ z in
-        let w = rw (s, f) at inv in
-        rw (add-one g) w
+  left_at : (n : ℕ) → n ≤ length groups → Others n → Left n
+  unfolding group_regs keep
+  left_at zero h f = refl
+  left_at (suc n) h f =
+      let s = drop-cons groups n (record { class = 0; regs = [] }) (omega arith) in
+      let inv = left_at n (omega arith) (λ k l. f k (omega arith)) in
+      rw (s, f n (omega arith)) at inv
 
-    pub head_none : Left → m ≤ g → (group_row (sheet_in t) m).regs ≡ group_regs (sheet_in t) c r
-    unfolding keep flat_map
-    head_none inv h =
-        let l = long_of (groups_are t) in
-        rw (get_or-eq_default groups _ {n = m} (omega arith)) (sym (ap (λ (l : List GroupRow). flat_map (λ x. x.regs) (keep (headed_by c r) l)) (drop_of_length-le groups {i = g} (omega arith))) ∙ inv)
+  found_at : (n : ℕ) → n < length groups → Others n → headed_by c r (group_row (sheet_in t) n) ≡ true → Ready t → (group_row (sheet_in t) n).regs ≡ group_regs (sheet_in t) c r
+  found_at n h f e ready =
+      let s = drop-cons groups n _ h in
+      sym (only_here c r (group_row (sheet_in t) n) (drop (suc n) groups) e (sym (ap heads_apart s) ∙ heads_later groups n (apart (sheet_in t) ready.names)))
+      ∙ sym (ap (λ (l : List GroupRow). flat_map (λ x. x.regs) (keep (headed_by c r) l)) s) ∙ left_at n (omega arith) f
 
-pub head_start : (t : List ℕ) (c r : ℕ) → Left t c r 0
-unfolding group_regs
-head_start t c r = refl
+  none_at : (n : ℕ) → length groups ≡ n → Others n → (group_row (sheet_in t) n).regs ≡ group_regs (sheet_in t) c r
+  unfolding keep flat_map
+  none_at n h f =
+      rw (get_or-eq_default groups _ {n = n} (omega arith))
+      (sym (ap (λ (l : List GroupRow). flat_map (λ x. x.regs) (keep (headed_by c r) l)) (drop_of_length-le groups {i = n} (omega arith))) ∙ left_at n (omega arith) f)
+
+  -- the first that is headed so, or one past the last
+  pub headed_first : {m n : ℕ} (o : Option ℕ) → m ≡ count_in t 3
+      → MatchOption o ((k : ℕ) → 0 ≤ k → k < m → headed_by c r (group_row (sheet_in t) k) ≡ false)
+      (λ i. (0 ≤ i) × (i < m) × (headed_by c r (group_row (sheet_in t) i) ≡ true) × ((k : ℕ) → 0 ≤ k → k < i → headed_by c r (group_row (sheet_in t) k) ≡ false))
+      → n ≡ unwrap_or o m → Ready t → (group_row (sheet_in t) n).regs ≡ group_regs (sheet_in t) c r
+  headed_first {m} None e f q ready = rw q (none_at m (omega (arith, long_of (groups_are t))) (λ k h. f k (omega arith) h))
+  headed_first (Some i) e f q ready = rw q (found_at i (omega (arith, long_of (groups_are t), f.1)) (λ k h. f.3 k (omega arith) h) f.2 ready)

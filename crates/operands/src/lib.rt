@@ -2,7 +2,7 @@
 #![tactic(auto)]
 
 ghost use Rattle.std.specs.Prelude.{◌≡◌};
-ghost use Rattle.rules.specs.Sheet.{Sheet};
+ghost use Rattle.rules.specs.Sheet.{Sheet, is_early};
 ghost use Rattle.rules.specs.Accept.{operand, class_of, class_for, headed_by};
 ghost use Rattle.rules.specs.Forward.{group_regs};
 ghost use Rattle.table.specs.Sheet.{sheet_in};
@@ -10,90 +10,80 @@ ghost use Rattle.table.specs.Index.{Ready};
 ghost use Rattle.table.specs.View.{op_row, group_row};
 ghost use Rattle.operands.specs.Operands.{as_row, operand_found, class_found, reused_class};
 
-use bits::tables::read_u32;
+use bits::tables::read;
 use entity::forms::{Constraint, OperandKind, Place};
 use entity::numbers::{OperandIndex, OperandRow, PhysReg, RegClass, RegGroup};
 use table::index::op_rows;
 use table::rows::{Kind, count, row_of};
 use table::view::{Operand, constraint_of, kind_of, operand_at, place_of};
 
-#[derive(Clone, Copy)]
-pub enum FoundOperand {
-    At(Operand),
-    Nothing,
-}
-
-#[derive(Clone, Copy)]
-pub enum FoundClass {
-    At(RegClass),
-    Nothing,
-}
-
 // The fields of row n of the operands.
 pub fn kind_at(t: &[u32], n: OperandRow) -> OperandKind
     ensures { result ≡ (op_row (sheet_in t.now) n.0).kind }
 {
     let row = row_of(t, Kind::OP, n.0);
-    kind_of(read_u32(row, 2), read_u32(row, 3))
+    kind_of(read(row, 2, 0), read(row, 3, 0))
 }
 
 pub fn constraint_at(t: &[u32], n: OperandRow) -> Constraint
     ensures { result ≡ (op_row (sheet_in t.now) n.0).constraint }
 {
-    constraint_of(read_u32(row_of(t, Kind::OP, n.0), 4))
+    constraint_of(read(row_of(t, Kind::OP, n.0), 4, 0))
 }
 
 pub fn place_at(t: &[u32], n: OperandRow) -> Place
     ensures { result ≡ (op_row (sheet_in t.now) n.0).place }
 {
-    place_of(read_u32(row_of(t, Kind::OP, n.0), 5))
+    place_of(read(row_of(t, Kind::OP, n.0), 5, 0))
+}
+
+// The kind is of an early definition.
+#[tactic(auto, unfolding(rules::specs::Sheet::is_early))]
+pub fn is_early(k: OperandKind) -> bool
+    ensures { result ≡ is_early k }
+{
+    matches!(k, OperandKind::EarlyDef(_) | OperandKind::EarlyDefGroup(_))
 }
 
 // Operand k of the instruction of an operand.
-pub fn operand(t: &[u32], o: Operand, k: OperandIndex) -> FoundOperand
+pub fn operand(t: &[u32], o: Operand, k: OperandIndex) -> Option<Operand>
     ensures { Ready t.now → result ≡ operand_found (operand (sheet_in t.now) (as_row o) k.0) }
 {
     let rows = op_rows(t, o.at);
-    if rows.to <= rows.from {
-        return FoundOperand::Nothing;
+    if rows.to.saturating_sub(rows.from) <= k.0 {
+        return None;
     }
-    if rows.to - rows.from <= k.0 {
-        return FoundOperand::Nothing;
-    }
-    FoundOperand::At(operand_at(t, OperandRow(rows.from + k.0)))
+    Some(operand_at(t, OperandRow(rows.from + k.0)))
 }
 
 // The class of a class constraint.
-fn class_of(c: Constraint) -> FoundClass
+#[tactic(auto, unfolding(rules::specs::Accept::class_of, crate::specs::Operands::class_found))]
+fn class_of(c: Constraint) -> Option<RegClass>
     ensures { (sh : Sheet) → result ≡ class_found (class_of sh c) }
 {
     match c {
-        Constraint::Class(c) => FoundClass::At(c),
-        Constraint::Fixed(_) => FoundClass::Nothing,
-        Constraint::Reuse(_) => FoundClass::Nothing,
+        Constraint::Class(c) => Some(c),
+        _ => None,
     }
 }
 
 // The class of operand k of the instruction of an operand.
-fn reused_class(t: &[u32], o: Operand, k: OperandIndex) -> FoundClass
+fn reused_class(t: &[u32], o: Operand, k: OperandIndex) -> Option<RegClass>
     ensures { Ready t.now → result ≡ class_found (reused_class (sheet_in t.now) (as_row o) k.0) }
 {
-    let FoundOperand::At(u) = operand(t, o, k) else {
-        return FoundClass::Nothing;
+    let Some(u) = operand(t, o, k) else {
+        return None;
     };
-    let c = u.constraint;
-    class_of(c)
+    class_of(u.constraint)
 }
 
 // The class of an operand: for a reuse, the reused operand's.
-pub fn class_for(t: &[u32], o: Operand) -> FoundClass
+pub fn class_for(t: &[u32], o: Operand) -> Option<RegClass>
     ensures { Ready t.now → result ≡ class_found (class_for (sheet_in t.now) (as_row o)) }
 {
-    let c = o.constraint;
-    match c {
-        Constraint::Class(c) => FoundClass::At(c),
-        Constraint::Fixed(_) => FoundClass::Nothing,
+    match o.constraint {
         Constraint::Reuse(k) => reused_class(t, o, k),
+        c => class_of(c),
     }
 }
 
@@ -102,23 +92,15 @@ pub fn headed_by(t: &[u32], g: RegGroup, c: RegClass, r: PhysReg) -> bool
     ensures { result ≡ headed_by c.0 r.0 (group_row (sheet_in t.now) g.0) }
 {
     let row = row_of(t, Kind::GROUP, g.0);
-    if read_u32(row, 2) != c.0 {
-        return false;
-    }
-    read_u32(row, 3) == r.0
+    read(row, 2, 0) == c.0 && read(row, 3, 0) == r.0
 }
 
 // The group of class c that begins with register r, or one past the last.
+// Stays: public; one past the last group is a group without registers, which is what its clause says.
 pub fn group_headed(t: &[u32], c: RegClass, r: PhysReg) -> RegGroup
     ensures { Ready t.now → (group_row (sheet_in t.now) result.0).regs ≡ group_regs (sheet_in t.now) c.0 r.0 }
 {
     let groups = count(t, Kind::GROUP);
-    let mut g: u32 = 0;
-    while g < groups {
-        if headed_by(t, RegGroup(g), c, r) {
-            return RegGroup(g);
-        }
-        g += 1;
-    }
-    RegGroup(groups)
+    let found = (0..groups).find(|g| headed_by(t, RegGroup(*g), c, r));
+    RegGroup(found.unwrap_or(groups))
 }

@@ -1,4 +1,6 @@
 -- For `program` and `output` of src/lib.rt: what the small program writes, off what the call gives. Assumes nothing.
+use Rattle.std.specs.Prelude as Code
+use Rattle.std.specs.Prelude.{Ok, Err}
 use mathlib.Core.Path.{◌≡◌, refl, sym, ap, ◌∙◌}
 use mathlib.Core.Bool.{false}
 use mathlib.Core.List.{List, ◌++◌}
@@ -17,21 +19,20 @@ use Rattle.rules.specs.Answer.{Answer, refused, written, answer, buffer, printed
 use Rattle.answer.specs.Text.{over}
 use Rattle.answer.proofs.Laying.{over_fits}
 use Rattle.drifthurdle.specs.Call.{as_outcome}
-use Rattle.drifthurdle.specs.declared.Outcome.{Outcome}
 use Rattle.drifthurdle.proofs.Refusing.{outcome_refused, outcome_written}
 use Rattle.program.specs.Input.{FirstBytes}
 
 -- ---- the buffer
 
 -- `old` is the buffer at entry, `mid` after the call
-module _ (input old : List ℕ) {mid : List ℕ} {o : Outcome} (room : length old ≡ program_room) (e : o ≡ as_outcome (answer input 1 1 (length old)))
+module _ (input old : List ℕ) {mid : List ℕ} {o : Code.Result ℕ Refusal} (room : length old ≡ program_room) (e : o ≡ as_outcome (answer input 1 1 (length old)))
     (b : mid ≡ buffer (answer input 1 1 (length old)) old) where
   program_is : (a : Answer) → answer input 1 1 (length old) ≡ a → printed a ≡ program input
   unfolding program
   program_is a q = ap printed (sym q ∙ ap (λ (k : ℕ). answer input 1 1 k) room)
 
   -- the call left the buffer, and the row is laid over it
-  pub prints_refused : {r : Refusal} {n : ℕ} {new : List ℕ} → o ≡ Outcome.Refused r
+  pub prints_refused : {r : Refusal} {n : ℕ} {new : List ℕ} → o ≡ Err r
       → (n ≡ length (printed (refused r))) × (new ≡ over mid 0 (printed (refused r))) × (n ≤ 20)
       → (n ≡ length (program input)) × (new ≡ buffer (written (program input)) old)
   unfolding buffer
@@ -43,7 +44,7 @@ module _ (input old : List ℕ) {mid : List ℕ} {o : Outcome} (room : length ol
       let laid : new ≡ printed (refused r) ++ drop (length (printed (refused r))) old = p.1 ∙ ap (λ (x : List ℕ). over x 0 (printed (refused r))) kept ∙ over_fits old _ (omega arith) in
       (p.0 ∙ ap length is, laid ∙ ap (λ (t : List ℕ). t ++ drop (length t) old) is)
 
-  pub prints_written : {n : ℕ} → o ≡ Outcome.Written n → (n ≡ length (program input)) × (mid ≡ buffer (written (program input)) old)
+  pub prints_written : {n : ℕ} → o ≡ Ok n → (n ≡ length (program input)) × (mid ≡ buffer (written (program input)) old)
   unfolding buffer printed
   prints_written f =
       let x = outcome_written _ (sym f ∙ e) in

@@ -14,7 +14,7 @@ ghost use Rattle.program.specs.Input.{FirstBytes};
 
 use crate::reading::read_full;
 use answer::rows::render_refused;
-use drifthurdle::{Outcome, clean};
+use drifthurdle::clean;
 use entity::numbers::SheetByte;
 use std::io;
 use std::io::{Read, Write};
@@ -30,8 +30,8 @@ pub fn program(input: &[u8], out: &mut [u8; ROOM]) -> usize
     ensures { (result ≡ length (program input.now)) × (out.new ≡ buffer (written (program input.now)) out.old) }
 {
     match clean(input, 1, 1, out) {
-        Outcome::Refused(r) => render_refused(r, out),
-        Outcome::Written(n) => n,
+        Err(r) => render_refused(r, out),
+        Ok(n) => n,
     }
 }
 
@@ -39,10 +39,7 @@ pub fn program(input: &[u8], out: &mut [u8; ROOM]) -> usize
 fn first(bytes: &[u8], n: usize) -> &[u8]
     ensures { result.now ≡ take n bytes.now }
 {
-    if n <= bytes.len() {
-        return &bytes[..n];
-    }
-    bytes
+    bytes.get(..n).unwrap_or(bytes)
 }
 
 // The same of what was read, the first `read` bytes of `input`: as many of the buffer's first bytes as it answers are what the program is to write.

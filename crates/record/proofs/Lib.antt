@@ -1,3 +1,4 @@
+pub mod Parts
 pub mod Sections
-pub mod Changes
 pub mod Rules
+pub mod Whole

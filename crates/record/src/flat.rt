@@ -1,12 +1,15 @@
 // The record of a walk as one flat table that is lent: its sections, and what reads or changes one entry.
 // An entry is a number, or `NONE`. Past a section a read gives `NONE` and a store does nothing.
-ghost use Rattle.std.specs.Prelude.{◌≡◌, ◌+◌, ◌≤◌};
+ghost use Rattle.std.specs.Prelude.{◌≡◌, ◌+◌, ◌≤◌, get_or};
+ghost use Rattle.rules.specs.Record as Rule;
+ghost use Rattle.rules.specs.Record.{absent};
 ghost use Rattle.record.specs.Layout.{unit_reg_at, unit_value_at, held_at, stored_at, defined_at, spilled_at, noted_reg_at, noted_value_at, record_length};
-ghost use Rattle.record.specs.Flat.{entry_in, changed_in, unit_reg_in, unit_value_in, held_in, stored_in, defined_in, spilled_in, noted_reg_in, noted_value_in, unit_written, reg_holds, slot_holds, defined_by, spilled_by, unit_noted};
+ghost use Rattle.record.specs.Flat.{section, record_of, changed_in, OneTable};
 
 use entity::numbers::{Block, PhysReg, RegUnit, SpillSlot, Value};
 
 // No register, value or block; larger than each.
+// Stays: the record and the states are flat tables of numbers (document 01); `held`, `stored`, `defined` and `spilled` are public and promise the number.
 pub const NONE: u32 = 65535;
 
 // The sections of the record, and its length.
@@ -41,118 +44,146 @@ pub fn layout_agrees()
     ensures record_length { LENGTH ≡ record_length }
 {}
 
-// Entry n of the section of `size` entries at `at`.
-fn entry(rec: &[u32; LENGTH], at: usize, size: u32, n: u32) -> u32
-    requires { at + size ≤ record_length }
-    ensures { result ≡ entry_in at size rec.now n }
-{
-    if n < size {
-        let i = at + n as usize;
-        return rec[i];
+// The record tells every cell.
+pub fn record_tells_cells()
+    ensures { OneTable }
+{}
+
+// The record of a walk.
+#[derive(Clone, Copy)]
+pub struct WalkRecord {
+    pub cells: [u32; LENGTH],
+}
+
+impl WalkRecord {
+    // Entry n of the section of `size` entries at `at`.
+    fn entry(&self, at: usize, size: u32, n: u32) -> u32
+        requires { at + size ≤ record_length }
+        ensures { result ≡ get_or (section self.now.cells at size) n absent }
+    {
+        if n < size {
+            self.cells[at + n as usize]
+        } else {
+            NONE
+        }
     }
-    NONE
-}
 
-fn change(rec: &mut [u32; LENGTH], at: usize, size: u32, n: u32, x: u32)
-    requires { at + size ≤ record_length }
-    ensures { rec.new ≡ changed_in at size n x rec.old }
-{
-    if n < size {
-        let i = at + n as usize;
-        rec[i] = x;
+    #[tactic(auto, unfolding(crate::specs::Flat::changed_in))]
+    fn change(&mut self, at: usize, size: u32, n: u32, x: u32)
+        requires { at + size ≤ record_length }
+        ensures { self.new.cells ≡ changed_in at size n x self.old.cells }
+    {
+        if n < size {
+            self.cells[at + n as usize] = x;
+        }
     }
-}
 
-pub(crate) fn unit_reg(rec: &[u32; LENGTH], u: RegUnit) -> u32
-    ensures { result ≡ unit_reg_in rec.now u.0 }
-{
-    entry(rec, UNITREG, RegUnit::LIMIT, u.0)
-}
+    // Stays: the reads and changes that follow are one call of `entry` or `change` each; five are public, and each is of its own section and type.
+    #[tactic(auto, unfolding(crate::specs::Flat::record_in))]
+    pub(crate) fn unit_reg(&self, u: RegUnit) -> u32
+        ensures { result ≡ get_or (record_of self.now).writes.reg u.0 absent }
+    {
+        self.entry(UNITREG, RegUnit::LIMIT, u.0)
+    }
 
-pub(crate) fn unit_value(rec: &[u32; LENGTH], u: RegUnit) -> u32
-    ensures { result ≡ unit_value_in rec.now u.0 }
-{
-    entry(rec, UNITVALUE, RegUnit::LIMIT, u.0)
-}
+    #[tactic(auto, unfolding(crate::specs::Flat::record_in))]
+    pub(crate) fn unit_value(&self, u: RegUnit) -> u32
+        ensures { result ≡ get_or (record_of self.now).writes.value u.0 absent }
+    {
+        self.entry(UNITVALUE, RegUnit::LIMIT, u.0)
+    }
 
-// The last write of unit u is of value v to register r.
-pub(crate) fn write_unit(rec: &mut [u32; LENGTH], u: RegUnit, r: PhysReg, v: Value)
-    ensures { rec.new ≡ unit_written u.0 r.0 v.0 rec.old }
-{
-    change(rec, UNITREG, RegUnit::LIMIT, u.0, r.0);
-    change(rec, UNITVALUE, RegUnit::LIMIT, u.0, v.0);
-}
+    // The last write of unit u is of value v to register r.
+    #[tactic(auto, using(crate::proofs::Sections::unit_changed))]
+    pub(crate) fn write_unit(&mut self, u: RegUnit, r: PhysReg, v: Value)
+        ensures { record_of self.new ≡ Rule.write_unit r.0 v.0 (record_of self.old) u.0 }
+    {
+        self.change(UNITREG, RegUnit::LIMIT, u.0, r.0);
+        self.change(UNITVALUE, RegUnit::LIMIT, u.0, v.0);
+    }
 
-// The value that register r holds.
-pub fn held(rec: &[u32; LENGTH], r: PhysReg) -> u32
-    ensures { result ≡ held_in rec.now r.0 }
-{
-    entry(rec, HELD, PhysReg::LIMIT, r.0)
-}
+    // The value that register r holds.
+    #[tactic(auto, unfolding(crate::specs::Flat::record_in))]
+    pub fn held(&self, r: PhysReg) -> u32
+        ensures { result ≡ get_or (record_of self.now).known.held r.0 absent }
+    {
+        self.entry(HELD, PhysReg::LIMIT, r.0)
+    }
 
-pub(crate) fn hold(rec: &mut [u32; LENGTH], r: PhysReg, v: Value)
-    ensures { rec.new ≡ reg_holds r.0 v.0 rec.old }
-{
-    change(rec, HELD, PhysReg::LIMIT, r.0, v.0);
-}
+    #[tactic(auto, using(crate::proofs::Sections::held_changed))]
+    pub(crate) fn hold(&mut self, r: PhysReg, v: Value)
+        ensures { record_of self.new ≡ Rule.hold r.0 v.0 (record_of self.old) }
+    {
+        self.change(HELD, PhysReg::LIMIT, r.0, v.0);
+    }
 
-// The value that slot s holds.
-pub fn stored(rec: &[u32; LENGTH], s: SpillSlot) -> u32
-    ensures { result ≡ stored_in rec.now s.0 }
-{
-    entry(rec, STORED, SpillSlot::LIMIT, s.0)
-}
+    // The value that slot s holds.
+    #[tactic(auto, unfolding(crate::specs::Flat::record_in))]
+    pub fn stored(&self, s: SpillSlot) -> u32
+        ensures { result ≡ get_or (record_of self.now).known.stored s.0 absent }
+    {
+        self.entry(STORED, SpillSlot::LIMIT, s.0)
+    }
 
-pub(crate) fn store(rec: &mut [u32; LENGTH], s: SpillSlot, v: Value)
-    ensures { rec.new ≡ slot_holds s.0 v.0 rec.old }
-{
-    change(rec, STORED, SpillSlot::LIMIT, s.0, v.0);
-}
+    #[tactic(auto, using(crate::proofs::Sections::slot_changed))]
+    pub(crate) fn store(&mut self, s: SpillSlot, v: Value)
+        ensures { record_of self.new ≡ Rule.store s.0 v.0 (record_of self.old) }
+    {
+        self.change(STORED, SpillSlot::LIMIT, s.0, v.0);
+    }
 
-// The defining block of v.
-pub fn defined(rec: &[u32; LENGTH], v: Value) -> u32
-    ensures { result ≡ defined_in rec.now v.0 }
-{
-    entry(rec, DEFINED, Value::LIMIT, v.0)
-}
+    // The defining block of v.
+    #[tactic(auto, unfolding(crate::specs::Flat::record_in))]
+    pub fn defined(&self, v: Value) -> u32
+        ensures { result ≡ get_or (record_of self.now).blocks.defined v.0 absent }
+    {
+        self.entry(DEFINED, Value::LIMIT, v.0)
+    }
 
-pub(crate) fn define_in(rec: &mut [u32; LENGTH], b: Block, v: Value)
-    ensures { rec.new ≡ defined_by v.0 b.0 rec.old }
-{
-    change(rec, DEFINED, Value::LIMIT, v.0, b.0);
-}
+    #[tactic(auto, using(crate::proofs::Sections::defined_changed))]
+    pub(crate) fn define_in(&mut self, b: Block, v: Value)
+        ensures { record_of self.new ≡ Rule.define_in b.0 v.0 (record_of self.old) }
+    {
+        self.change(DEFINED, Value::LIMIT, v.0, b.0);
+    }
 
-// The last spilled block of v.
-pub fn spilled(rec: &[u32; LENGTH], v: Value) -> u32
-    ensures { result ≡ spilled_in rec.now v.0 }
-{
-    entry(rec, SPILLED, Value::LIMIT, v.0)
-}
+    // The last spilled block of v.
+    #[tactic(auto, unfolding(crate::specs::Flat::record_in))]
+    pub fn spilled(&self, v: Value) -> u32
+        ensures { result ≡ get_or (record_of self.now).blocks.spilled v.0 absent }
+    {
+        self.entry(SPILLED, Value::LIMIT, v.0)
+    }
 
-pub fn spill_in(rec: &mut [u32; LENGTH], b: Block, v: Value)
-    ensures { rec.new ≡ spilled_by v.0 b.0 rec.old }
-{
-    change(rec, SPILLED, Value::LIMIT, v.0, b.0);
-}
+    #[tactic(auto, using(crate::proofs::Sections::spilled_changed))]
+    pub fn spill_in(&mut self, b: Block, v: Value)
+        ensures { record_of self.new ≡ Rule.spill_in b.0 v.0 (record_of self.old) }
+    {
+        self.change(SPILLED, Value::LIMIT, v.0, b.0);
+    }
 
-pub(crate) fn noted_reg(rec: &[u32; LENGTH], u: RegUnit) -> u32
-    ensures { result ≡ noted_reg_in rec.now u.0 }
-{
-    entry(rec, NOTEDREG, RegUnit::LIMIT, u.0)
-}
+    #[tactic(auto, unfolding(crate::specs::Flat::record_in))]
+    pub(crate) fn noted_reg(&self, u: RegUnit) -> u32
+        ensures { result ≡ get_or (record_of self.now).notes.reg u.0 absent }
+    {
+        self.entry(NOTEDREG, RegUnit::LIMIT, u.0)
+    }
 
-pub(crate) fn noted_value(rec: &[u32; LENGTH], u: RegUnit) -> u32
-    ensures { result ≡ noted_value_in rec.now u.0 }
-{
-    entry(rec, NOTEDVALUE, RegUnit::LIMIT, u.0)
-}
+    #[tactic(auto, unfolding(crate::specs::Flat::record_in))]
+    pub(crate) fn noted_value(&self, u: RegUnit) -> u32
+        ensures { result ≡ get_or (record_of self.now).notes.value u.0 absent }
+    {
+        self.entry(NOTEDVALUE, RegUnit::LIMIT, u.0)
+    }
 
-// Unit u's last write is noted.
-pub(crate) fn note_unit(rec: &mut [u32; LENGTH], u: RegUnit)
-    ensures { rec.new ≡ unit_noted u.0 rec.old }
-{
-    let r = unit_reg(rec, u);
-    let v = unit_value(rec, u);
-    change(rec, NOTEDREG, RegUnit::LIMIT, u.0, r);
-    change(rec, NOTEDVALUE, RegUnit::LIMIT, u.0, v);
+    // Unit u's last write is noted.
+    #[tactic(auto, using(crate::proofs::Sections::note_changed))]
+    pub(crate) fn note_unit(&mut self, u: RegUnit)
+        ensures { record_of self.new ≡ Rule.note_unit (record_of self.old) u.0 }
+    {
+        let r = self.unit_reg(u);
+        let v = self.unit_value(u);
+        self.change(NOTEDREG, RegUnit::LIMIT, u.0, r);
+        self.change(NOTEDVALUE, RegUnit::LIMIT, u.0, v);
+    }
 }

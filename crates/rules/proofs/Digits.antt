@@ -22,7 +22,6 @@ decimal_more v [] b = refl
 decimal_more v (a ∷ s) b = decimal_more (v * 10 + (a - 48)) s b
 
 all_more : (s : List ℕ) (b : ℕ) → all is_digit s ≡ true → is_digit b ≡ true → all is_digit (s ++ (b ∷ [])) ≡ true
-unfolding all
 all_more [] b h k = rw k
 all_more (a ∷ s) b h k =
     let both = (and-eq-true_iff (is_digit a) (all is_digit s)).0 h in
@@ -34,7 +33,7 @@ record Made (n : ℕ) (s : List ℕ) : Type 0 where
   front : 1 ≤ n → get_or s 0 0 ≡ 48 → ⊥
 
 last : (n : ℕ) → n < 10 → Made n ((48 + n) ∷ [])
-unfolding all decimal no_leading_zero
+unfolding decimal no_leading_zero
 last n h = record {
   known = record { made = rw digit; some = omega arith; front = refl; value = omega arith };
   front = λ l e. omega arith;

@@ -1,11 +1,10 @@
 -- Document 01, "The call", with the finer refusals of document 02, request 1: the answer for every sheet, level, sweep flag and length of the output buffer.
-use Rattle.std.specs.Prelude.{Bool, true, false, cond, ℕ, ◌+◌, leb, eqb, length, get_or, drop, ℤ, pos, neg_ℤ}
+use Rattle.std.specs.Prelude.{Bool, true, false, cond, ℕ, ◌+◌, leb, eqb, length, get_or, drop, ℤ, pos, neg_ℤ, Some, None}
 use mathlib.Core.List.{List, [], ◌∷◌, ◌++◌, map, flat_map, zip}
 use Rattle.std.proofs.Math.Option.{Option, none, some, Option-elim}
 use Rattle.laws.specs.Lists.{from}
 use Rattle.entity.specs.Forms.{level_of, sum_of}
 use Rattle.entity.specs.declared.forms.Level.{Level}
-use Rattle.entity.specs.declared.forms.FoundLevel.TheVariants as Found
 use Rattle.entity.specs.declared.forms.Refusal.{Refusal}
 use Rattle.entity.specs.declared.forms.Refusal.TheVariants.{Rows, Limits, Names, NoEntry, Empty, Disagree, Edges, NotSmaller, NotReached, Operands, Edits, Call, Room}
 use Rattle.rules.specs.Cells.{word, digits_of, field_of, reg_mark, slot_mark}
@@ -93,7 +92,7 @@ checked level swept capacity sh = Option-elim (first_refusal (checks sh)) (fitte
 
 -- 7: "level over 3 or sweep flag over 1"
 unfoldable pub called : ℕ → ℕ → Option (Level × Bool)
-called level flag = elim (level_of level) [ Found.At l ↦ cond (leb flag 1) (some (l, eqb flag 1)) none | Found.Nothing ↦ none ]
+called level flag = elim (level_of level) [ Some l ↦ cond (leb flag 1) (some (l, eqb flag 1)) none | None ↦ none ]
 
 unfoldable pub answer : List ℕ → ℕ → ℕ → ℕ → Answer
 answer sheet level flag capacity =

@@ -180,5 +180,5 @@ row_text r = line_of (map field_of r)
 
 -- `unfolding reading` opens all of the above
 unfoldable pub reading : Bool
-unfolding bytes same all find is_digit decimal no_leading_zero number_of marks marked_of words word_of cell_of word digits_in digits_of field_of bind or_else Option-elim flat_map new_row new_field onto cut every cells_of field_ok fits op_shape edit_shape kinds kind_from row_ok begins goes_on pair_ok pairs_ok sheet_ok rows_of line_of row_text
+unfolding bytes same find is_digit decimal no_leading_zero number_of marks marked_of words word_of cell_of word digits_in digits_of field_of bind or_else Option-elim flat_map new_row new_field onto cut every cells_of field_ok fits op_shape edit_shape kinds kind_from row_ok begins goes_on pair_ok pairs_ok sheet_ok rows_of line_of row_text
 reading = true

@@ -30,7 +30,6 @@ either s (x ∷ l) m h = ⊎_elim (λ e. inl (inl e)) (λ y. ⊎_elim (λ a. inl
 
 -- what is true of all is true of each member
 pub all_true : (f : ℕ → Bool) (l : List ℕ) → all f l ≡ true → (s : ℕ) → In s l → f s ≡ true
-unfolding all
 all_true f [] e s h = absurd h
 all_true f (x ∷ l) e s h = ⊎_elim (λ q. rw q (and_left (f x) (all f l) e)) (all_true f l (and_right (f x) (all f l) e) s) h
 

@@ -10,7 +10,7 @@ use native.Mathlib.Omega.{arith}
 use lib.Dec.{eqb}
 use borrow.Author.Tests.{eqb-true, eq-eqb}
 use Rattle.laws.specs.Fold.{run}
-use Rattle.laws.specs.Lists.{any, keep, is_in}
+use Rattle.laws.specs.Lists.{keep, is_in}
 use Rattle.rules.specs.Function.{In, Target, into, over}
 use Rattle.rules.specs.Sweep.{Sends, moves, stays, with, with_all, without_all, wanted_by}
 use Rattle.run.proofs.Alike.{Back}
@@ -20,7 +20,7 @@ or_true true b = (λ e. inl refl, λ e. refl)
 or_true false b = (inr, ⊎_elim (λ e. let z : ◌≡◌ {A = ℕ} 0 1 = cc in absurd (omega arith)) (λ e. e))
 
 pub is_in_lem : (s : ℕ) (A : List ℕ) → (is_in s A ≡ true) ↔ In s A
-unfolding is_in any
+unfolding is_in
 is_in_lem s [] = (λ e. let z : ◌≡◌ {A = ℕ} 0 1 = cc in absurd (omega arith), λ h. absurd h)
 is_in_lem s (x ∷ A) =
     let e = or_true (eqb s x) (is_in s A) in

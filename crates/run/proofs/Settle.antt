@@ -122,7 +122,6 @@ gap_all n [] = omega arith
 gap_all n (A ∷ E) = omega (arith, missing_all A n, gap_all n E)
 
 all_false : (f : ℕ → Bool) (B : List ℕ) → all f B ≡ false → (s : ℕ) × In s B × (f s ≡ false)
-unfolding all
 all_false f [] e = let z : ◌≡◌ {A = ℕ} 0 1 = cc in absurd (omega arith)
 all_false f (x ∷ B) e = by_bool (f x) (λ t. let w = all_false f B (rw t at e) in (w.0, inr w.1, w.2)) (λ t. (x, inl refl, t))
 

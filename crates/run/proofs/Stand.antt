@@ -236,7 +236,6 @@ module _ (sh : Sheet) where
 -- the instruction of an edit row exists
 all_exist : (sh : Sheet) (es : List EditRow) → all (λ x. inst_exists sh x.at && edit_names sh x.edit) es ≡ true → (j : ℕ) → j < length es
     → get_or (map (λ x. x.at) es) j 0 < inst_count sh
-unfolding all
 all_exist sh [] e j l = absurd (omega arith)
 all_exist sh (x ∷ es) e zero l = ltb-true x.at (inst_count sh) (and_parts (inst_exists sh x.at) (edit_names sh x.edit) (and_parts _ _ e).0).0
 all_exist sh (x ∷ es) e (suc j) l = all_exist sh es (and_parts (inst_exists sh x.at && edit_names sh x.edit) _ e).1 j (omega arith)

@@ -179,7 +179,6 @@ module _ (sh : Sheet) (few : sh.slots ≤ slot_limit) where
   names_in Nothing e s h = absurd h
 
   edits_in_lem : (l : List EditRow) → all (λ e. inst_exists sh e.at && edit_names sh e.edit) l ≡ true → (j : ℕ) → EditIn (get_or (map (λ e. e.edit) l) j Nothing)
-  unfolding all
   edits_in_lem [] e j = λ s h. absurd h
   edits_in_lem (x ∷ l) e zero = names_in x.edit (and_parts (inst_exists sh x.at) (edit_names sh x.edit) (and_parts _ _ e).0).1
   edits_in_lem (x ∷ l) e (suc j) = edits_in_lem l (and_parts (inst_exists sh x.at && edit_names sh x.edit) _ e).1 j
@@ -190,7 +189,6 @@ module _ (sh : Sheet) (few : sh.slots ≤ slot_limit) where
   OpIn o = PlaceIn o.place
 
   rows_in : (l : List OpRow) → all (λ o. inst_exists sh o.at && subject_exists sh o.kind && constraint_exists sh o.constraint && place_exists sh o.place) l ≡ true → Each OpIn l
-  unfolding all
   rows_in [] e = tt
   rows_in (o ∷ l) e =
       let test = inst_exists sh o.at && subject_exists sh o.kind && constraint_exists sh o.constraint in

@@ -2,7 +2,7 @@
 use mathlib.Core.Path.{◌≡◌, refl, sym, ◌∙◌, ap}
 use mathlib.Core.Bool.{Bool, true, false, cond, ◌&&◌, and-false, false≢true}
 use mathlib.Core.List.{List}
-use mathlib.Core.Option.{Option, none, some, bind, some-injective}
+use mathlib.Core.Option.{Option, none, some, bind, map, some-injective}
 use Prim.Native.Nat.{ℕ, ◌<◌, ◌≤◌}
 use native.Mathlib.Omega.{arith}
 use lib.ListN.{length}
@@ -12,23 +12,21 @@ use borrow.Author.Tests.{le-leb, lt-leb, leb-true}
 use Rattle.laws.proofs.Cases.{and_parts, some_ne_none}
 use Rattle.rules.specs.Rows.{cells_of, sheet_ok, rows_of}
 use Rattle.rules.specs.Sheets.{is_some}
-use Rattle.sheet.specs.Answers.{as_lexed}
+use Rattle.sheet.specs.Answers.{option_of}
 use Rattle.table.specs.Layout.{table_length}
 use Rattle.table.specs.Table.{Indexed}
-use Rattle.sheet.specs.declared.lexing.Lexed.{Lexed}
-use Rattle.sheet.specs.declared.lexing.Lexed.TheVariants.{Rows, Broken}
+use Rattle.std.specs.declared.option.Option as rust
+use Rattle.std.specs.declared.option.Option.TheVariants.{Some, None}
 
 -- ---- what `rows` answers says of the cells
 
-pub are_rows : {r : Lexed} (o : Option (List (List ℕ))) (n : ℕ) → r ≡ as_lexed o → r ≡ Rows n → (rs : List (List ℕ)) × (o ≡ some rs) × (length rs ≡ n)
-unfolding as_lexed
-are_rows none n e g = let z : ◌≡◌ {A = ℕ} 0 1 = cc in absurd (omega arith)
+pub are_rows : {r : rust.Option ℕ} (o : Option (List (List ℕ))) (n : ℕ) → r ≡ option_of (map length o) → r ≡ Some n → (rs : List (List ℕ)) × (o ≡ some rs) × (length rs ≡ n)
+are_rows none n e g = cc
 are_rows (some rs) n e g = (rs, refl, cc)
 
-pub no_rows : {r : Lexed} (o : Option (List (List ℕ))) → r ≡ as_lexed o → r ≡ Broken → o ≡ none
-unfolding as_lexed
+pub no_rows : {r : rust.Option ℕ} (o : Option (List (List ℕ))) → r ≡ option_of (map length o) → r ≡ None → o ≡ none
 no_rows none e g = refl
-no_rows (some rs) e g = let z : ◌≡◌ {A = ℕ} 0 1 = cc in absurd (omega arith)
+no_rows (some rs) e g = cc
 
 -- ---- the sheet
 

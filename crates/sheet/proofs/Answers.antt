@@ -1,23 +1,15 @@
--- For `mark` and `lookup` of src/fields.rt, which answer with an enum of their own, and their callers in src/lexing.rt: what an answer says of the specification's option, and back.
--- Assumes nothing.
+-- For what src/fields.rt and src/lexing.rt answer with `Option`: what an answer says of the definitions' option, and back. Assumes nothing.
 use mathlib.Core.Path.{◌≡◌, refl}
-use mathlib.Core.Option.{Option, none, some}
-use Prim.Native.Nat.{ℕ}
-use native.Mathlib.Omega.{arith}
-use Rattle.sheet.specs.Answers.{as_num}
-use Rattle.sheet.specs.declared.fields.Num.{Num}
-use Rattle.sheet.specs.declared.fields.Num.TheVariants.{Is, Nothing}
+use mathlib.Core.Option as maybe
+use mathlib.Core.Option.{none, some}
+use Rattle.std.specs.declared.option.Option.{Option}
+use Rattle.std.specs.declared.option.Option.TheVariants.{Some, None}
+use Rattle.sheet.specs.Answers.{option_of}
 
-pub is_some : {r : Num} (o : Option ℕ) (v : ℕ) → r ≡ as_num o → r ≡ Is v → o ≡ some v
-unfolding as_num
-is_some none v e g = let z : ◌≡◌ {A = ℕ} 0 1 = cc in absurd (omega arith)
+pub is_some : {A : Type 0} {r : Option A} (o : maybe.Option A) (v : A) → r ≡ option_of o → r ≡ Some v → o ≡ some v
+is_some none v e g = cc
 is_some (some n) v e g = cc
 
-pub is_none : {r : Num} (o : Option ℕ) → r ≡ as_num o → r ≡ Nothing → o ≡ none
-unfolding as_num
+pub is_none : {A : Type 0} {r : Option A} (o : maybe.Option A) → r ≡ option_of o → r ≡ None → o ≡ none
 is_none none e g = refl
-is_none (some n) e g = let z : ◌≡◌ {A = ℕ} 0 1 = cc in absurd (omega arith)
-
-pub nothing : {o : Option ℕ} → o ≡ none → Nothing ≡ as_num o
-unfolding as_num
-nothing e = rw e
+is_none (some n) e g = cc

@@ -1,5 +1,5 @@
 -- For `index` of src/kinds.rt, its loop: where each kind's rows begin, one kind or one row at a time. Assumes nothing.
-use mathlib.Core.Path.{◌≡◌, refl, sym, ◌∙◌, ap}
+use mathlib.Core.Path.{◌≡◌, sym, ◌∙◌, ap}
 use mathlib.Core.Bool.{Bool, true, false, ◌&&◌}
 use mathlib.Core.List.{List, [], ◌∷◌, ◌++◌}
 use Prim.Native.Nat.{ℕ, zero, suc, ◌+◌, ◌-◌, ◌<◌, ◌≤◌}
@@ -28,9 +28,6 @@ pub record Indexing (rs : List (List ℕ)) (t : List ℕ) (i k : ℕ) : Type 0 w
   pub held : Holds rs t
   pub begun : take k (drop kind_index t) ≡ take k (kinds_begin rs)
   pub passed : (j : ℕ) → j < i → kind (get_or rs j []) < slots_word + k
-
-pub nothing_yet : (rs : List (List ℕ)) (t : List ℕ) → Holds rs t → Indexing rs t 0 0
-nothing_yet rs t h = record { held = h; begun = refl; passed = λ j l. absurd (omega arith) }
 
 module _ {rs : List (List ℕ)} {t : List ℕ} {i k : ℕ} (x : Indexing rs t i k) where
   pub row_more : i < length rs → kind (row_in t i) < slots_word + k → Indexing rs t (i + 1) k
@@ -70,6 +67,10 @@ module _ {rs : List (List ℕ)} {t : List ℕ} {i k : ℕ} (x : Indexing rs t i 
         kinds_begun = ap (λ (n : ℕ). take n (drop kind_index t)) (sym e) ∙ x.begun ∙ take_all k (kinds_begin rs) (rw (long rs) (omega arith));
         rising = up;
       }
+
+-- of a table that held rows, whose kinds never fall
+abbrev pub Goes : List ℕ → ℕ → List ℕ → ℕ → ℕ → Type 0
+Goes t₀ n t i k = (rs : List (List ℕ)) → Holds rs t₀ → length rs ≡ n → Rising rs → Indexing rs t i k
 
 -- ---- the rows of a sheet that passes the test never fall
 

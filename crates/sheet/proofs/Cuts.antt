@@ -15,7 +15,8 @@ use Rattle.laws.proofs.Cases.{some_ne_none}
 use Rattle.rules.specs.Cells.{cell_of}
 use Rattle.rules.specs.Rows.{new_row, new_field, onto, cut, every, cells_of, reading}
 use Rattle.sheet.specs.Answers.{up_to, comma, crlf, ended, field_at}
-use Rattle.sheet.specs.declared.lexing.Piece.TheVariants.{More, Last, Unread}
+use Rattle.sheet.specs.declared.lexing.Piece.TheVariants.{More, Last}
+use Rattle.std.specs.declared.option.Option.TheVariants.{Some, None}
 
 abbrev Bytes : Type 0
 Bytes = Option (List (List (List ℕ)))
@@ -234,21 +235,21 @@ crlf_bytes (a ∷ b ∷ bs) e = omega arith
 abbrev IsMore : Option ℕ → Bool → ℕ → ℕ → ℕ → Type 0
 IsMore o p x c e = (o ≡ some c) × (p ≡ true) × (x ≡ e)
 
-more_is : (o : Option ℕ) (p q : Bool) (x c e : ℕ) → ended o p q x ≡ More c e → IsMore o p x c e
+more_is : (o : Option ℕ) (p q : Bool) (x c e : ℕ) → ended o p q x ≡ Some (More c e) → IsMore o p x c e
 unfolding ended
 more_is none p q x c e g = let z : ◌≡◌ {A = ℕ} 0 1 = cc in absurd (omega arith)
 more_is (some d) true q x c e g = (cc, refl, cc)
 more_is (some d) false true x c e g = let z : ◌≡◌ {A = ℕ} 0 1 = cc in absurd (omega arith)
 more_is (some d) false false x c e g = let z : ◌≡◌ {A = ℕ} 0 1 = cc in absurd (omega arith)
 
-last_is : (o : Option ℕ) (p q : Bool) (x c e : ℕ) → ended o p q x ≡ Last c e → (o ≡ some c) × (p ≡ false) × (q ≡ true) × (x ≡ e)
+last_is : (o : Option ℕ) (p q : Bool) (x c e : ℕ) → ended o p q x ≡ Some (Last c e) → (o ≡ some c) × (p ≡ false) × (q ≡ true) × (x ≡ e)
 unfolding ended
 last_is none p q x c e g = let z : ◌≡◌ {A = ℕ} 0 1 = cc in absurd (omega arith)
 last_is (some d) true q x c e g = let z : ◌≡◌ {A = ℕ} 0 1 = cc in absurd (omega arith)
 last_is (some d) false true x c e g = (cc, refl, refl, cc)
 last_is (some d) false false x c e g = let z : ◌≡◌ {A = ℕ} 0 1 = cc in absurd (omega arith)
 
-unread_is : (o : Option ℕ) (p q : Bool) (x : ℕ) (u : List ℕ) → ended o p q x ≡ Unread → next_read p q o u ≡ none
+unread_is : (o : Option ℕ) (p q : Bool) (x : ℕ) (u : List ℕ) → ended o p q x ≡ None → next_read p q o u ≡ none
 unfolding ended next_read cell_then last_then
 unread_is none true q x u g = refl
 unread_is none false true x u g = refl
@@ -273,7 +274,7 @@ module _ (s : List ℕ) (at : ℕ) (h : at < length s) where
   unfolding field_at after
   field_ended = refl
 
-  pub step_more : (c e : ℕ) → field_at (drop at s) at ≡ More c e
+  pub step_more : (c e : ℕ) → field_at (drop at s) at ≡ Some (More c e)
       → (cells_of (drop at s) ≡ cell_then (some c) (cells_of (drop (e + 1) s))) × (at < e) × (e < length s)
   unfolding next_read
   step_more c e g =
@@ -283,7 +284,7 @@ module _ (s : List ℕ) (at : ℕ) (h : at < length s) where
         omega (arith, i.2, after_long, comma_byte (after (drop at s)) i.1),
       )
 
-  pub step_last : (c e : ℕ) → field_at (drop at s) at ≡ Last c e
+  pub step_last : (c e : ℕ) → field_at (drop at s) at ≡ Some (Last c e)
       → (cells_of (drop at s) ≡ last_then (some c) (cells_of (drop (e + 2) s))) × (at < e) × (e + 1 < length s)
   unfolding next_read
   step_last c e g =
@@ -293,5 +294,5 @@ module _ (s : List ℕ) (at : ℕ) (h : at < length s) where
         omega (arith, i.3, after_long, crlf_bytes (after (drop at s)) i.2),
       )
 
-  pub step_unread : field_at (drop at s) at ≡ Unread → cells_of (drop at s) ≡ none
+  pub step_unread : field_at (drop at s) at ≡ None → cells_of (drop at s) ≡ none
   step_unread g = read_next (drop at s) some_left ∙ unread_is _ _ _ _ (after (drop at s)) (sym field_ended ∙ g)

@@ -1,8 +1,8 @@
 -- For src/shapes.rt, the shapes of rules/specs/Rows.antt by the code's tests: the fields of a row of known length, and lists. Assumes nothing.
 use mathlib.Core.Path.{◌≡◌, refl, sym, ◌∙◌, ap}
-use mathlib.Core.Bool.{Bool, true, false, ◌&&◌, ◌||◌, and-true, and-false, and_assoc}
+use mathlib.Core.Bool.{Bool, true, false, ◌&&◌, ◌||◌, and-true, and-false}
 use mathlib.Core.List.{List, [], ◌∷◌}
-use Prim.Native.Nat.{ℕ, suc, ◌+◌, ◌-◌, ◌<◌, ◌≤◌}
+use Prim.Native.Nat.{ℕ, suc, ◌-◌, ◌<◌}
 use native.Mathlib.Omega.{arith}
 use lib.ListN.{length, get_or, take, drop}
 use lib.Dec.{leb}
@@ -12,7 +12,7 @@ use Rattle.laws.proofs.Cases.{by_lt}
 use Rattle.rules.specs.Cells.{number_limit}
 use Rattle.rules.specs.Rows.{Field, number, flag, dash, place, constraint, only, ◌up_to◌, field_ok, Shape, end, list, list₁, ◌▸◌, fits, op_shape, edit_shape, row_ok}
 use Rattle.sheet.specs.Grammar.{plain_op, fixed_op, fits_kind}
-use Rattle.sheet.proofs.Lists.{drop_step, drop_end, part_rest}
+use Rattle.sheet.proofs.Lists.{part_rest}
 
 -- ---- the code joins from the left
 
@@ -129,6 +129,9 @@ pub not_op : (cs : List ℕ) → (length cs ≡ 5 → ⊥) → false ≡ fits op
 unfolding fits op_shape
 not_op cs h = rw (not_5 number ("def" up_to "earlyg") number constraint place cs h, not_5 number (only "fixed") dash constraint place cs h)
 
+pub edit_is : (cs : List ℕ) → length cs ≡ 5 → fits edit_shape (get_or cs 0 0 ∷ get_or cs 1 0 ∷ get_or cs 2 0 ∷ get_or cs 3 0 ∷ get_or cs 4 0 ∷ []) ≡ fits edit_shape cs
+edit_is cs h = sym (ap (fits edit_shape) (elements_5 cs h))
+
 pub not_edit : (cs : List ℕ) → (length cs ≡ 5 → ⊥) → false ≡ fits edit_shape cs
 unfolding fits edit_shape
 not_edit cs h =
@@ -141,41 +144,21 @@ not_edit cs h =
 
 -- ---- lists: as many numbers at least as the shape has, and a flag is a number
 
--- the part of the cells that the code hands on is what stands after the fields
-rest : (k : ℕ) (cs : List ℕ) → all (field_ok number) (take (length cs - k) (drop k cs)) ≡ all (field_ok number) (drop k cs)
-rest k cs = ap (all (field_ok number)) (part_rest cs k)
-
-pub listed_is : (cs : List ℕ) (n : ℕ) → 1 ≤ n → n ≤ length cs
-    → (field_ok number (get_or cs 0 0) && all (field_ok number) (take (length cs - 1) (drop 1 cs))) ≡ (leb n (length cs) && all (field_ok number) cs)
-unfolding all
-listed_is [] n g h = absurd (omega arith)
-listed_is (u ∷ cs) n g h = rw (rest 1 (u ∷ cs), le-leb n (suc (length cs)) h)
-
 flag_second : (a c : Bool) (v : ℕ) → (a && (field_ok number v && c) && field_ok flag v) ≡ (a && (field_ok flag v && c))
 unfolding field_ok
 flag_second a c v =
     by_lt v 2 (λ h. rw (lt-ltb v 2 h, lt-ltb v number_limit (omega arith)) (and-true (a && c)))
     (λ h. rw (le-ltb v 2 h, and-false, and-false))
 
-pub flagged_is : (cs : List ℕ) (n : ℕ) → 2 ≤ n → n ≤ length cs
-    → (field_ok number (get_or cs 0 0) && field_ok flag (get_or cs 1 0) && all (field_ok number) (take (length cs - 2) (drop 2 cs)))
-    ≡ (leb n (length cs) && all (field_ok number) cs && field_ok flag (get_or cs 1 0))
-unfolding all
-flagged_is [] n g h = absurd (omega arith)
-flagged_is (u ∷ []) n g h = absurd (omega arith)
-flagged_is (u ∷ v ∷ cs) n g h =
-    rw (rest 2 (u ∷ v ∷ cs), le-leb n (suc (suc (length cs))) h)
-    (and_assoc (field_ok number u) (field_ok flag v) (all (field_ok number) cs) ∙ sym (flag_second (field_ok number u) (all (field_ok number) cs) v))
-
 pub two_or_more : (cs : List ℕ) → (leb 2 (length cs) && all (field_ok number) cs) ≡ fits (number ▸ list₁) cs
-unfolding all fits
+unfolding fits
 two_or_more [] = refl
 two_or_more (u ∷ cs) =
     by_lt 0 (length cs) (λ h. rw (le-leb 2 (suc (length cs)) (omega arith), lt-ltb 0 (length cs) h))
     (λ h. rw (lt-leb 2 (suc (length cs)) (omega arith), le-ltb 0 (length cs) h, and-false))
 
 pub three_or_more : (cs : List ℕ) → (leb 3 (length cs) && all (field_ok number) cs) ≡ fits (number ▸ number ▸ list₁) cs
-unfolding all fits
+unfolding fits
 three_or_more [] = refl
 three_or_more (u ∷ []) = sym (and-false (field_ok number u))
 three_or_more (u ∷ v ∷ cs) =
@@ -183,34 +166,19 @@ three_or_more (u ∷ v ∷ cs) =
     (λ h. rw (lt-leb 3 (suc (suc (length cs))) (omega arith), le-ltb 0 (length cs) h, and-false, and-false))
 
 pub flagged_two : (cs : List ℕ) → (leb 2 (length cs) && all (field_ok number) cs && field_ok flag (get_or cs 1 0)) ≡ fits (number ▸ flag ▸ list) cs
-unfolding all fits
+unfolding fits
 flagged_two [] = refl
 flagged_two (u ∷ []) = sym (and-false (field_ok number u))
 flagged_two (u ∷ v ∷ cs) = rw (le-leb 2 (suc (suc (length cs))) (omega arith)) (flag_second (field_ok number u) (all (field_ok number) cs) v)
 
 pub flagged_three : (cs : List ℕ) → (leb 3 (length cs) && all (field_ok number) cs && field_ok flag (get_or cs 1 0)) ≡ fits (number ▸ flag ▸ list₁) cs
-unfolding all fits
+unfolding fits
 flagged_three [] = refl
 flagged_three (u ∷ []) = sym (and-false (field_ok number u))
 flagged_three (u ∷ v ∷ cs) =
     by_lt 0 (length cs)
     (λ h. rw (le-leb 3 (suc (suc (length cs))) (omega arith), lt-ltb 0 (length cs) h) (flag_second (field_ok number u) (all (field_ok number) cs) v))
     (λ h. rw (lt-leb 3 (suc (suc (length cs))) (omega arith), le-ltb 0 (length cs) h, and-false, and-false))
-
--- ---- all are numbers, at a cursor
-
-module _ (cs : List ℕ) (i : ℕ) where
-  pub numbers_not : i < length cs → number_limit ≤ get_or cs i 0 → all (field_ok number) (drop i cs) ≡ false
-  unfolding all field_ok
-  numbers_not h l = rw (drop_step cs i h, le-ltb (get_or cs i 0) number_limit l)
-
-  pub numbers_more : i < length cs → get_or cs i 0 < number_limit → all (field_ok number) (drop i cs) ≡ all (field_ok number) (drop (i + 1) cs)
-  unfolding all field_ok
-  numbers_more h l = rw (drop_step cs i h, lt-ltb (get_or cs i 0) number_limit l)
-
-  pub numbers_end : length cs ≤ i → all (field_ok number) (drop i cs) ≡ true
-  unfolding all
-  numbers_end h = rw (drop_end cs i h)
 
 -- ---- a row is its kind's word and what stands after it
 

@@ -11,7 +11,7 @@ use lib.Dec.{ltb}
 use Rattle.rules.specs.Cells.{is_digit, decimal, word_of, word_mark, number_limit}
 use Rattle.sheet.specs.Answers.{comma, crlf, ended, field_by, lead, plain_head, number_from}
 use Rattle.sheet.specs.Packing.{pack, packed, find_num}
-use Rattle.sheet.specs.declared.lexing.Piece.TheVariants.{Unread}
+use Rattle.std.specs.declared.option.Option.TheVariants.{None}
 use Rattle.sheet.proofs.Lists.{part_rest}
 use Rattle.sheet.proofs.Pieces.{lead_within, lead_bytes, head_unread, head_ended}
 use Rattle.sheet.proofs.Numbers.{number_head, number_out, head_below}
@@ -34,7 +34,7 @@ module _ (s : List ℕ) (at base v n : ℕ) (hv : v ≡ decimal 0 (lead is_digit
   pub number_small : v < number_limit
   number_small = omega (arith, ev, head_below (drop at s))
 
-  pub number_unread : plain_head (rest s at) n ≡ false → Unread ≡ field_by (number_from base) (drop at s) at
+  pub number_unread : plain_head (rest s at) n ≡ false → None ≡ field_by (number_from base) (drop at s) at
   unfolding number_from is_digit
   number_unread e =
       let t = drop at s in
@@ -65,7 +65,7 @@ module _ (s : List ℕ) (at w n : ℕ) (hw : w ≡ pack (lead (ltb 44) 7 (rest s
         let b : (i : ℕ) → get_or (drop at s) i 0 < 256 = λ i. rw (get_or-drop at s i 0) (bytes (at + i)) in
         word_pack (lead (ltb 44) 7 (drop at s)) (lead_bytes (ltb 44) 256 7 (drop at s) (omega arith) b) ∙ ap (λ (x : ℕ). find_num x word_mark packed) (sym lw)
 
-    pub word_unread : find_num w word_mark packed ≡ none → Unread ≡ field_by word_of (drop at s) at
+    pub word_unread : find_num w word_mark packed ≡ none → None ≡ field_by word_of (drop at s) at
     word_unread e = head_unread (ltb 44) refl refl 7 word_of word_out (drop at s) at (cell_is ∙ e)
 
     pub word_ended : (c : ℕ) → find_num w word_mark packed ≡ some c → ended (some c) (comma (rest s (at + n))) (crlf (rest s (at + n))) (at + n) ≡ field_by word_of (drop at s) at

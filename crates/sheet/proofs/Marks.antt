@@ -11,12 +11,11 @@ use lib.ListN.{length, get_or, drop}
 use lib.Seq.{get_or-drop}
 use lib.Dec.{eqb}
 use borrow.Author.Tests.{ne_eqb, lt-leb, le-leb}
-use Rattle.laws.specs.Lists.{all}
 use Rattle.laws.proofs.Cases.{by_bool, by_lt, some_ne_none}
 use Rattle.rules.specs.Text.{bytes}
 use Rattle.rules.specs.Cells.{find, marks, is_digit, number_of, marked_of, word_of, cell_of, number_limit}
 use Rattle.sheet.specs.Answers.{up_to, comma, crlf, ended, number_from, field_by, field_at}
-use Rattle.sheet.specs.declared.lexing.Piece.TheVariants.{Unread}
+use Rattle.std.specs.declared.option.Option.TheVariants.{None}
 use Rattle.rules.specs.Rows.{reading}
 use Rattle.sheet.proofs.Lists.{drop_step, drop_end}
 use Rattle.sheet.proofs.Numbers.{digit_is}
@@ -58,11 +57,11 @@ first_digit [] e = refl
 first_digit (b ∷ bs) e = rw (up_to_first b bs (omega (arith, digit_is b e)))
 
 nil_number : number_of [] ≡ none
-unfolding number_of all
+unfolding number_of
 nil_number = refl
 
 no_digit : (b : ℕ) (f : List ℕ) → is_digit b ≡ false → number_of (b ∷ f) ≡ none
-unfolding number_of all
+unfolding number_of
 no_digit b f e = rw e
 
 high_none : (b : ℕ) (f : List ℕ) → 57 < b → number_of (b ∷ f) ≡ none
@@ -89,7 +88,7 @@ from_0 : (o : Option ℕ) → map (λ n. 0 + n) o ≡ o
 from_0 none = refl
 from_0 (some n) = ap some (zero-add n)
 
-pub nil_unread : (s : List ℕ) (at : ℕ) → length s ≤ at → Unread ≡ field_at (drop at s) at
+pub nil_unread : (s : List ℕ) (at : ℕ) → length s ≤ at → None ≡ field_at (drop at s) at
 unfolding field_at ended up_to reading
 nil_unread s at h = rw (drop_end s at h)
 

@@ -45,7 +45,7 @@ number_out base f e = by_bool (all is_digit f) (λ d. rw (d, rw d at e, and-fals
 -- ---- a number is below 100000
 
 bound : (f : List ℕ) (v : ℕ) → all is_digit f ≡ true → decimal v f < (v + 1) * 10 ^ length f
-unfolding all decimal
+unfolding decimal
 bound [] v d = rw mul-one (omega arith)
 bound (b ∷ bs) v d =
     let h = and_parts (is_digit b) (all is_digit bs) d in

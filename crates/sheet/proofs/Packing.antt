@@ -65,7 +65,7 @@ is_byte : ℕ → Bool
 is_byte b = ltb b 256
 
 are_bytes : (l : List ℕ) → all is_byte l ≡ true → Bytes l
-unfolding all is_byte
+unfolding is_byte
 are_bytes [] t i = omega arith
 are_bytes (b ∷ bs) t zero = ltb-true b 256 (and_parts (is_byte b) (all is_byte bs) t).0
 are_bytes (b ∷ bs) t (suc i) = are_bytes bs (and_parts (is_byte b) (all is_byte bs) t).1 i
@@ -73,14 +73,14 @@ are_bytes (b ∷ bs) t (suc i) = are_bytes bs (and_parts (is_byte b) (all is_byt
 -- a word that is found is found packed
 find_pack : (f : List ℕ) → Bytes f → (k : ℕ) (ws : List String) → all (λ w. all is_byte (bytes w)) ws ≡ true
     → find (λ w. same f (bytes w)) k ws ≡ find_num (pack f) k (map (λ w. pack (bytes w)) ws)
-unfolding all find find_num
+unfolding find find_num
 find_pack f h k [] t = refl
 find_pack f h k (w ∷ ws) t =
     let x = and_parts (all is_byte (bytes w)) (all (λ w. all is_byte (bytes w)) ws) t in
     rw (same_pack f (bytes w) h (are_bytes (bytes w) x.0), find_pack f h (k + 1) ws x.1)
 
 pub word_pack : (f : List ℕ) → Bytes f → word_of f ≡ find_num (pack f) word_mark packed
-unfolding word_of packed words all bytes is_byte
+unfolding word_of packed words bytes is_byte
 word_pack f h = find_pack f h word_mark words refl
 
 -- ---- the code's `match`: what its last arm knows
@@ -115,13 +115,13 @@ module _ (p : List ℕ → Bool) (f : List ℕ) (e : p f ≡ false) where
   not_same g h = by_bool (same f g) (λ s. never (sym e ∙ ap p (same_is f g s) ∙ h)) (λ s. s)
 
   not_found : (k : ℕ) (ws : List String) → all (λ w. p (bytes w)) ws ≡ true → find (λ w. same f (bytes w)) k ws ≡ none
-  unfolding all find
+  unfolding find
   not_found k [] t = refl
   not_found k (w ∷ ws) t =
       let x = and_parts (p (bytes w)) (all (λ w. p (bytes w)) ws) t in rw (not_same (bytes w) x.0) (not_found (k + 1) ws x.1)
 
 pub word_out : (f : List ℕ) → (all (ltb 44) f && leb (length f) 7) ≡ false → word_of f ≡ none
-unfolding word_of words all bytes
+unfolding word_of words bytes
 word_out f e = not_found (λ g. all (ltb 44) g && leb (length g) 7) f e word_mark words refl
 
 -- none has a digit as its first or second byte
@@ -131,9 +131,9 @@ module _ (f : List ℕ) (i : ℕ) where
   digit_out e t = not_found (λ g. not (is_digit (get_or g i 0))) f (rw e) word_mark words t
 
 pub word_first : (f : List ℕ) → is_digit (get_or f 0 0) ≡ true → word_of f ≡ none
-unfolding words all bytes is_digit
+unfolding words bytes is_digit
 word_first f e = digit_out f 0 e refl
 
 pub word_second : (f : List ℕ) → is_digit (get_or f 1 0) ≡ true → word_of f ≡ none
-unfolding words all bytes is_digit
+unfolding words bytes is_digit
 word_second f e = digit_out f 1 e refl

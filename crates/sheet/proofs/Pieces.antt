@@ -1,7 +1,7 @@
 -- For `digits` and `packed` of src/fields.rt and `number` and `word` of src/lexing.rt: the bytes at the head that pass a test, and that they are the
 -- field, or else the field has no cell and no end stands behind them. Assumes nothing.
 use mathlib.Core.Path.{◌≡◌, refl, sym, ◌∙◌, ap}
-use mathlib.Core.Bool.{Bool, true, false, ◌&&◌, ◌||◌, and-false}
+use mathlib.Core.Bool.{Bool, true, false, ◌&&◌, ◌||◌}
 use mathlib.Core.List.{List, [], ◌∷◌}
 use mathlib.Core.Option.{Option, none, some}
 use Prim.Native.Nat.{ℕ, zero, suc, ◌+◌, ◌-◌, ◌<◌, ◌≤◌}
@@ -12,14 +12,14 @@ use borrow.Author.Tests.{eqb-true, le-leb, lt-leb, leb-true}
 use Rattle.laws.specs.Lists.{all}
 use Rattle.laws.proofs.Cases.{by_bool, by_lt, never, and_parts, and_both}
 use Rattle.sheet.specs.Answers.{up_to, comma, crlf, ended, field_by, lead}
-use Rattle.sheet.specs.declared.lexing.Piece.TheVariants.{Unread}
+use Rattle.std.specs.declared.option.Option.TheVariants.{None}
 use Rattle.sheet.proofs.Lists.{drop_step, drop_end}
 
 -- ---- the bytes at the head
 
 module _ (p : ℕ → Bool) where
   pub lead_all : (k : ℕ) (t : List ℕ) → all p (lead p k t) ≡ true
-  unfolding all lead
+  unfolding lead
   lead_all zero t = refl
   lead_all (suc k) [] = refl
   lead_all (suc k) (b ∷ bs) = by_bool (p b) (λ e. rw (e, e) (lead_all k bs)) (λ e. rw e)
@@ -66,19 +66,6 @@ module _ (p : ℕ → Bool) where
   unfolding lead
   lead_done n t k h = let z : n - k ≡ 0 = omega arith in rw z
 
--- ---- what ends a field
-
-pub comma_is : (u : List ℕ) → comma u ≡ eqb (get_or u 0 0) 44
-unfolding comma
-comma_is [] = refl
-comma_is (a ∷ u) = refl
-
-pub crlf_is : (u : List ℕ) → crlf u ≡ (eqb (get_or u 0 0) 13 && eqb (get_or u 1 0) 10)
-unfolding crlf
-crlf_is [] = refl
-crlf_is (a ∷ []) = sym (and-false (eqb a 13))
-crlf_is (a ∷ b ∷ u) = refl
-
 -- ---- and the field
 
 leb_suc : (m k : ℕ) → leb (suc m) (suc k) ≡ leb m k
@@ -105,7 +92,7 @@ module _ (p : ℕ → Bool) (no-comma : p 44 ≡ false) (no-cr : p 13 ≡ false)
 
   -- where all of the field passes and is short enough, it is what stands at the head
   head_is : (k : ℕ) (t : List ℕ) → (all p (up_to t) && leb (length (up_to t)) k) ≡ true → lead p k t ≡ up_to t
-  unfolding all lead up_to
+  unfolding lead up_to
   head_is zero [] h = refl
   head_is (suc k) [] h = refl
   head_is zero (b ∷ bs) h =
@@ -121,7 +108,7 @@ module _ (p : ℕ → Bool) (no-comma : p 44 ≡ false) (no-cr : p 13 ≡ false)
   -- and where not, no end stands behind that
   not_ended : (k : ℕ) (t : List ℕ) → (all p (up_to t) && leb (length (up_to t)) k) ≡ false
       → (comma (drop (length (lead p k t)) t) ≡ false) × (crlf (drop (length (lead p k t)) t) ≡ false)
-  unfolding all lead up_to
+  unfolding lead up_to
   not_ended k [] h = never (sym h ∙ le-leb 0 k (omega arith))
   not_ended zero (b ∷ bs) h =
       by_bool (eqb b 44 || eqb b 13) (λ e. never (sym (rw e at h))) (λ e. no_end b bs e)
@@ -131,7 +118,7 @@ module _ (p : ℕ → Bool) (no-comma : p 44 ≡ false) (no-cr : p 13 ≡ false)
 
   -- so a reading that gives nothing to fields that do not pass or are too long may be made of what stands at the head
   module _ (k : ℕ) (cell : List ℕ → Option ℕ) (out : (f : List ℕ) → (all p f && leb (length f) k) ≡ false → cell f ≡ none) (t : List ℕ) (at : ℕ) where
-    pub head_unread : cell (lead p k t) ≡ none → Unread ≡ field_by cell t at
+    pub head_unread : cell (lead p k t) ≡ none → None ≡ field_by cell t at
     unfolding ended
     head_unread e =
         let n : cell (up_to t) ≡ none =

@@ -1,7 +1,8 @@
 -- For `rows` of src/lexing.rt, its loop: which rows are whole, which cells the row at hand has, and what the rest of the sheet adds. Assumes nothing.
 use mathlib.Core.Path.{◌≡◌, refl, sym, ◌∙◌, ap}
+use mathlib.Core.Bool.{Bool, true, false}
 use mathlib.Core.List.{List, [], ◌∷◌, ◌++◌, append_assoc, append-nil}
-use mathlib.Core.Option.{Option, none, some, bind, some-injective}
+use mathlib.Core.Option.{Option, none, some, bind, map, some-injective}
 use Prim.Native.Nat.{ℕ, ◌+◌, ◌-◌, ◌*◌, ◌<◌, ◌≤◌}
 use native.Mathlib.Omega.{arith}
 use lib.ListN.{length, get_or, take, drop, set, length-append, length-set}
@@ -9,14 +10,15 @@ use lib.Seq.{take-set-le, drop-set-add}
 use Rattle.entity.specs.Limits.{byte_limit}
 use Rattle.laws.proofs.Cases.{by_eq, some_ne_none}
 use Rattle.rules.specs.Rows.{every, cut, cells_of}
-use Rattle.sheet.specs.Answers.{as_lexed}
+use Rattle.sheet.specs.Answers.{option_of, field_at}
+use Rattle.sheet.specs.declared.lexing.Piece.TheVariants.{More, Last}
 use Rattle.table.specs.Layout.{cells_at, table_length}
 use Rattle.table.specs.Rows.{start_in}
 use Rattle.table.specs.Table.{flatten, offsets, Holds}
-use Rattle.sheet.specs.declared.lexing.Lexed.{Lexed}
-use Rattle.sheet.specs.declared.lexing.Lexed.TheVariants.{Rows, Broken}
+use Rattle.std.specs.declared.option.Option as rust
+use Rattle.std.specs.declared.option.Option.TheVariants.{Some, None}
 use Rattle.sheet.proofs.Lists.{drop_end}
-use Rattle.sheet.proofs.Cuts.{cell_then, last_then}
+use Rattle.sheet.proofs.Cuts.{cell_then, last_then, step_more, step_last, step_unread}
 use Rattle.table.proofs.Parts.{room_enough}
 use Rattle.table.proofs.Holding.{last_offset}
 use Rattle.table.proofs.Beginnings.{start_kept, start_stored}
@@ -55,12 +57,12 @@ resume_last done [] c (some rs) = rw append_assoc
 resume_last done (d ∷ cs) c none = refl
 resume_last done (d ∷ cs) c (some rs) = rw append_assoc
 
--- 1 inside a row, 0 between rows
-unfoldable pub is_open : List ℕ → ℕ
-is_open [] = 0
-is_open (c ∷ cs) = 1
+-- inside a row
+unfoldable pub is_open : List ℕ → Bool
+is_open [] = false
+is_open (c ∷ cs) = true
 
-pub record Reading (s t₀ t : List ℕ) (at n k in_row : ℕ) : Type 0 where
+pub record Reading (s t₀ t : List ℕ) (at n k : ℕ) (in_row : Bool) : Type 0 where
   pub done : List (List ℕ)
   pub cur : List ℕ
   pub here : at ≤ length s
@@ -73,23 +75,20 @@ pub record Reading (s t₀ t : List ℕ) (at n k in_row : ℕ) : Type 0 where
   pub few_cells : 2 * n + k ≤ 2 * cells_at + at
   pub few_rows : 3 * k ≤ at
   pub long : length t ≡ length t₀
+  pub enough : table_length (length s) ≤ length t
+  pub small : length s ≤ byte_limit
 
-closed : (done : List (List ℕ)) (cur : List ℕ) → is_open cur ≡ 0 → (resume done cur (some []) ≡ some done) × (cur ≡ [])
+closed : (done : List (List ℕ)) (cur : List ℕ) → is_open cur ≡ false → (resume done cur (some []) ≡ some done) × (cur ≡ [])
 unfolding is_open resume
 closed done [] e = (ap some (append-nil done), refl)
-closed done (c ∷ cs) e = absurd (omega arith)
+closed done (c ∷ cs) e = cc
 
-broken_off : (done : List (List ℕ)) (cur : List ℕ) → is_open cur ≡ 1 → resume done cur (some []) ≡ none
+broken_off : (done : List (List ℕ)) (cur : List ℕ) → is_open cur ≡ true → resume done cur (some []) ≡ none
 unfolding is_open resume
-broken_off done [] e = absurd (omega arith)
+broken_off done [] e = cc
 broken_off done (c ∷ cs) e = refl
 
-one_at_most : (cur : List ℕ) → is_open cur ≤ 1
-unfolding is_open
-one_at_most [] = omega arith
-one_at_most (c ∷ cs) = omega arith
-
-open_more : (cur : List ℕ) (c : ℕ) → 1 ≡ is_open (cur ++ (c ∷ []))
+open_more : (cur : List ℕ) (c : ℕ) → true ≡ is_open (cur ++ (c ∷ []))
 unfolding is_open
 open_more [] c = refl
 open_more (d ∷ cs) c = refl
@@ -99,35 +98,48 @@ unfolding resume
 resume_nil none = refl
 resume_nil (some rs) = refl
 
-pub start : (s t : List ℕ) → 0 < length t → Reading s (set t (length t - 1) cells_at) (set t (length t - 1) cells_at) 0 cells_at 0 0
+pub some_room : (s t : List ℕ) → table_length (length s) ≤ length t → length s ≤ byte_limit → 0 < length t
+some_room s t l u = omega (arith, room_enough (length s) (length t) 0 l u (omega arith))
+
+pub start : (s t : List ℕ) → table_length (length s) ≤ length t → length s ≤ byte_limit → Reading s (set t (length t - 1) cells_at) (set t (length t - 1) cells_at) 0 cells_at 0 false
 unfolding flatten offsets is_open
-start s t h =
+start s t l m =
     record {
       done = [];
       cur = [];
       here = omega arith;
       answer = resume_nil (cells_of s);
       cells_are = refl;
-      starts_are = λ i u. let z : i ≡ 0 = omega arith in rw z (start_stored t (length t - 1) cells_at 0 h (omega arith));
+      starts_are = λ i u. let z : i ≡ 0 = omega arith in rw z (start_stored t (length t - 1) cells_at 0 (some_room s t l m) (omega arith));
       n_is = omega arith;
       k_is = refl;
       in_row_lem = refl;
       few_cells = omega arith;
       few_rows = omega arith;
       long = refl;
+      enough = rw length-set l;
+      small = m;
     }
 
-module _ {s t₀ t : List ℕ} {at n k in_row : ℕ} (r : Reading s t₀ t at n k in_row) where
+-- what a turn of the loop needs of e, where the field ends, and leads to
+abbrev pub MoreTurn : List ℕ → List ℕ → List ℕ → ℕ → ℕ → ℕ → ℕ → ℕ → Type 0
+MoreTurn s t₀ t at n k c e = (at < e) × (e < length s) × (n + (k + 1) < length t) × Reading s t₀ (set t n c) (e + 1) (n + 1) k true
+
+abbrev pub LastTurn : List ℕ → List ℕ → List ℕ → ℕ → ℕ → ℕ → ℕ → ℕ → Type 0
+LastTurn s t₀ t at n k c e =
+    (at < e) × (e + 1 < length s) × (n + (k + 2) < length t)
+    × ((p : ℕ) → p ≡ length t - (k + 2) → Reading s t₀ (set (set t n c) p (n + 1)) (e + 2) (n + 1) (k + 1) false)
+
+module _ {s t₀ t : List ℕ} {at n k : ℕ} {in_row : Bool} (r : Reading s t₀ t at n k in_row) where
   -- there is room for the cell at hand, and for where its row ends
-  module _ (enough : table_length (length s) ≤ length t) (small : length s ≤ byte_limit) where
-    pub room_more : (e : ℕ) → at < e → e < length s → n + (k + 1) < length t
-    room_more e a l = omega (arith, room_enough (length s) (length t) (n - cells_at + 1 + k) enough small (omega (arith, r.few_cells, r.few_rows)), r.n_is)
+  room_more : (e : ℕ) → at < e → e < length s → n + (k + 1) < length t
+  room_more e a l = omega (arith, room_enough (length s) (length t) (n - cells_at + 1 + k) r.enough r.small (omega (arith, r.few_cells, r.few_rows)), r.n_is)
 
-    pub room_last : (e : ℕ) → at < e → e + 1 < length s → n + (k + 2) < length t
-    room_last e a l = omega (arith, room_enough (length s) (length t) (n - cells_at + 1 + (k + 1)) enough small (omega (arith, r.few_cells, r.few_rows)), r.n_is)
+  room_last : (e : ℕ) → at < e → e + 1 < length s → n + (k + 2) < length t
+  room_last e a l = omega (arith, room_enough (length s) (length t) (n - cells_at + 1 + (k + 1)) r.enough r.small (omega (arith, r.few_cells, r.few_rows)), r.n_is)
 
-    pub room_end : n + k < length t
-    room_end = omega (arith, room_enough (length s) (length t) (n - cells_at + k) enough small (omega (arith, r.here, r.few_cells, r.few_rows)), r.n_is)
+  room_end : n + k < length t
+  room_end = omega (arith, room_enough (length s) (length t) (n - cells_at + k) r.enough r.small (omega (arith, r.here, r.few_cells, r.few_rows)), r.n_is)
 
   cells_more : (c : ℕ) → List ℕ
   cells_more c = flatten r.done ++ (r.cur ++ (c ∷ []))
@@ -147,8 +159,8 @@ module _ {s t₀ t : List ℕ} {at n k in_row : ℕ} (r : Reading s t₀ t at n 
   kept : (c i : ℕ) → n + (k + 1) < length t → i ≤ k → start_in (set t n c) i ≡ get_or (offsets cells_at r.done) i 0
   kept c i m u = start_kept t n c i (λ e. omega arith) ∙ r.starts_are i u
 
-  pub more : (c e : ℕ) → at < e → e < length s → n + (k + 1) < length t → cells_of (drop at s) ≡ cell_then (some c) (cells_of (drop (e + 1) s))
-      → Reading s t₀ (set t n c) (e + 1) (n + 1) k 1
+  more : (c e : ℕ) → at < e → e < length s → n + (k + 1) < length t → cells_of (drop at s) ≡ cell_then (some c) (cells_of (drop (e + 1) s))
+      → Reading s t₀ (set t n c) (e + 1) (n + 1) k true
   unfolding cells_more
   more c e a l m g =
       record {
@@ -164,6 +176,8 @@ module _ {s t₀ t : List ℕ} {at n k in_row : ℕ} (r : Reading s t₀ t at n 
         few_cells = omega (arith, r.few_cells);
         few_rows = omega (arith, r.few_rows);
         long = length-set t n c ∙ r.long;
+        enough = rw length-set r.enough;
+        small = r.small;
       }
 
   rows_more : (c : ℕ) → List (List ℕ)
@@ -197,9 +211,9 @@ module _ {s t₀ t : List ℕ} {at n k in_row : ℕ} (r : Reading s t₀ t at n 
       start_kept (set t n c) p (n + 1) i (λ e. d (omega arith))
       ∙ kept c i (omega arith) (omega arith) ∙ sym (offsets_kept r.done cells_at (r.cur ++ (c ∷ [])) i (omega (arith, r.k_is))))
 
-  pub last : (c e p : ℕ) → at < e → e + 1 < length s → n + (k + 2) < length t → p ≡ length t - (k + 2)
+  last : (c e p : ℕ) → at < e → e + 1 < length s → n + (k + 2) < length t → p ≡ length t - (k + 2)
       → cells_of (drop at s) ≡ last_then (some c) (cells_of (drop (e + 2) s))
-      → Reading s t₀ (set (set t n c) p (n + 1)) (e + 2) (n + 1) (k + 1) 0
+      → Reading s t₀ (set (set t n c) p (n + 1)) (e + 2) (n + 1) (k + 1) false
   unfolding rows_more is_open
   last c e p a l m q g =
       record {
@@ -215,42 +229,52 @@ module _ {s t₀ t : List ℕ} {at n k in_row : ℕ} (r : Reading s t₀ t at n 
         few_cells = omega (arith, r.few_cells);
         few_rows = omega (arith, r.few_rows);
         long = length-set (set t n c) p (n + 1) ∙ length-set t n c ∙ r.long;
+        enough = simp length-set r.enough;
+        small = r.small;
       }
+
+  -- a field that `field` answers with: there is room for its cell, and for where its row ends
+  pub more_turn : (c e : ℕ) → at < length s → field_at (drop at s) at ≡ Some (More c e) → MoreTurn s t₀ t at n k c e
+  more_turn c e h g =
+      let x = step_more s at h c e g in
+      let room = room_more e x.1 x.2 in
+      (x.1, x.2, room, more c e x.1 x.2 room x.0)
+
+  pub last_turn : (c e : ℕ) → at < length s → field_at (drop at s) at ≡ Some (Last c e) → LastTurn s t₀ t at n k c e
+  last_turn c e h g =
+      let x = step_last s at h c e g in
+      let room = room_last e x.1 x.2 in
+      (x.1, x.2, room, λ p q. last c e p x.1 x.2 room q x.0)
 
   -- at the end of the sheet: between rows, the rows are all; inside one, the sheet is broken
   left_nil : length s ≤ at → cells_of (drop at s) ≡ some []
   unfolding cells_of cut every bind
   left_nil h = rw (drop_end s at h)
 
-  pub at_end : length s ≤ at → in_row ≡ 0 → (cells_of s ≡ some r.done) × (r.cur ≡ [])
+  pub at_end : length s ≤ at → in_row ≡ false → (cells_of s ≡ some r.done) × (r.cur ≡ [])
   at_end h z =
       let e = closed r.done r.cur (sym r.in_row_lem ∙ z) in
       (r.answer ∙ ap (resume r.done r.cur) (left_nil h) ∙ e.0, e.1)
 
-  pub at_break : length s ≤ at → in_row ≡ 1 → cells_of s ≡ none
+  pub at_break : length s ≤ at → in_row ≡ true → cells_of s ≡ none
   at_break h z = r.answer ∙ ap (resume r.done r.cur) (left_nil h) ∙ broken_off r.done r.cur (sym r.in_row_lem ∙ z)
 
-  pub not_in_row : (in_row ≡ 1 → ⊥) → in_row ≡ 0
-  not_in_row f = omega (arith, r.in_row_lem, one_at_most r.cur)
-
-  pub at_unread : cells_of (drop at s) ≡ none → cells_of s ≡ none
-  at_unread g = r.answer ∙ ap (resume r.done r.cur) g ∙ resume_none r.done r.cur
+  pub at_unread : at < length s → field_at (drop at s) at ≡ None → cells_of s ≡ none
+  at_unread h g = r.answer ∙ ap (resume r.done r.cur) (step_unread s at h g) ∙ resume_none r.done r.cur
 
 -- ---- the answer
 
-abbrev Answered : List ℕ → List ℕ → Lexed → Type 0
+abbrev Answered : List ℕ → List ℕ → rust.Option ℕ → Type 0
 Answered s t a =
-    (a ≡ as_lexed (cells_of s))
+    (a ≡ option_of (map length (cells_of s)))
     × ((rs : List (List ℕ)) → cells_of s ≡ some rs → Holds rs t)
 
-pub answer_broken : (s t : List ℕ) → cells_of s ≡ none → Answered s t Broken
-unfolding as_lexed
-answer_broken s t e = (sym (ap as_lexed e), λ rs g. some_ne_none g e)
+pub answer_broken : (s t : List ℕ) → cells_of s ≡ none → Answered s t None
+answer_broken s t e = (rw e, λ rs g. some_ne_none g e)
 
-pub answer_whole : {s t₀ t : List ℕ} {at n k in_row : ℕ} → Reading s t₀ t at n k in_row → table_length (length s) ≤ length t → length s ≤ byte_limit → length s ≤ at → in_row ≡ 0
-    → Answered s t (Rows k)
-unfolding as_lexed
-answer_whole {s} {t} {n} {k} r enough small h z =
+pub answer_whole : {s t₀ t : List ℕ} {at n k : ℕ} {in_row : Bool} → Reading s t₀ t at n k in_row → length s ≤ at → in_row ≡ false
+    → Answered s t (Some k)
+answer_whole {s} {t} {n} {k} r h z =
     let e = at_end r h z in
     let flat : flatten r.done ++ r.cur ≡ flatten r.done = ap (λ (c : List ℕ). flatten r.done ++ c) e.1 ∙ append-nil _ in
     let count : cells_at + length (flatten r.done) ≡ n = sym (ap (λ (l : List ℕ). cells_at + length l) flat) ∙ r.n_is in
@@ -258,9 +282,9 @@ answer_whole {s} {t} {n} {k} r enough small h z =
     record {
       cells_begin = sym (ap (λ (l : List ℕ). take (length l) (drop cells_at t)) flat) ∙ r.cells_are ∙ flat;
       starts_begin = λ i u. r.starts_are i (omega (arith, r.k_is));
-      apart = omega (arith, count, r.k_is, room_end r enough small);
+      apart = omega (arith, count, r.k_is, room_end r);
       few_cells = omega (arith, count, r.few_cells, r.here);
       few_rows = omega (arith, r.k_is, r.few_rows, r.here);
     } in
     let same : (rs : List (List ℕ)) → cells_of s ≡ some rs → r.done ≡ rs = λ rs g. some-injective _ _ (sym e.0 ∙ g) in
-    (sym (ap as_lexed e.0 ∙ rw r.k_is), λ rs g. rw (← same rs g) held)
+    (rw (e.0, r.k_is), λ rs g. rw (← same rs g) held)

@@ -5,11 +5,12 @@ ghost use Rattle.sheet.specs.Grammar.{begins_kind, goes_on_kind, follows};
 ghost use Rattle.table.specs.Table.{rows_in};
 
 use crate::shapes::row_ok;
-use bits::tables::read_u32;
+use bits::tables::read;
 use entity::cells::Word;
 use table::rows::row;
 
 // A first field n where its kind begins.
+#[tactic(auto, unfolding(crate::specs::Grammar::begins_kind, rules::specs::Rows::begins, rules::specs::Rows::reading))]
 fn begins(kind: u32, n: u32) -> bool
     ensures { result ≡ begins_kind kind n }
 {
@@ -21,6 +22,7 @@ fn begins(kind: u32, n: u32) -> bool
 }
 
 // A first field n after a row of its kind whose first field is x.
+#[tactic(auto, unfolding(crate::specs::Grammar::goes_on_kind, rules::specs::Rows::goes_on, rules::specs::Rows::reading))]
 fn goes_on(kind: u32, x: u32, n: u32) -> bool
     ensures { result ≡ goes_on_kind kind x n }
 {
@@ -34,6 +36,7 @@ fn goes_on(kind: u32, x: u32, n: u32) -> bool
 }
 
 // A row of kind k with first field n after a row of kind p with first field x.
+#[tactic(auto, using(crate::proofs::Order::follows_is))]
 fn pair_ok(p: u32, x: u32, k: u32, n: u32) -> bool
     ensures { result ≡ follows p x k n }
 {
@@ -46,25 +49,23 @@ pub fn sheet_ok(t: &[u32], n: u32) -> bool
     if n == 0 {
         return false;
     }
-    if read_u32(row(t, 0), 0) != Word::SLOTS {
+    if read(row(t, 0), 0, 0) != Word::SLOTS {
         return false;
     }
     let mut p: u32 = 0;
     let mut x: u32 = 0;
-    let mut i: u32 = 0;
-    while i < n {
+    for i in 0..n {
         let r = row(t, i);
         if !row_ok(r) {
             return false;
         }
-        let k = read_u32(r, 0);
-        let f = read_u32(r, 1);
+        let k = read(r, 0, 0);
+        let f = read(r, 1, 0);
         if !pair_ok(p, x, k, f) {
             return false;
         }
         p = k;
         x = f;
-        i += 1;
     }
     true
 }

@@ -7,7 +7,7 @@ ghost use Rattle.table.specs.Layout.{cells_at};
 ghost use Rattle.table.specs.Table.{Holds, Rising, Indexed};
 ghost use Rattle.table.specs.Rows.{row_in};
 
-use bits::tables::read_u32;
+use bits::tables::read;
 use entity::cells::Word;
 use table::INDEX;
 use table::rows::row;
@@ -18,7 +18,7 @@ fn earlier(t: &[u32], n: u32, i: u32, k: usize) -> bool
     ensures { result ≡ (ltb i n && ltb (kind (row_in t.now i)) (slots_word + k)) }
 {
     if i < n {
-        read_u32(row(t, i), 0) < Word::SLOTS + k as u32
+        read(row(t, i), 0, 0) < Word::SLOTS + k as u32
     } else {
         false
     }
@@ -29,13 +29,10 @@ pub fn index(t: &mut [u32], n: u32)
     ensures { (rs : List (List ℕ)) → Holds rs t.old → length rs ≡ n → Rising rs → Indexed rs t.new }
 {
     let mut i: u32 = 0;
-    let mut k: usize = 0;
-    while k < 14 {
-        if earlier(t, n, i, k) {
+    for k in 0..14 {
+        while earlier(t, n, i, k) {
             i += 1;
-        } else {
-            t[INDEX + k] = i;
-            k += 1;
         }
+        t[INDEX + k] = i;
     }
 }

@@ -10,7 +10,6 @@ ghost use Rattle.table.specs.Layout.{table_length};
 ghost use Rattle.table.specs.Table.{Indexed};
 
 use entity::numbers::SheetByte;
-use lexing::Lexed;
 use table::index::room;
 
 mod fields;
@@ -22,6 +21,7 @@ mod shapes;
 // The most bytes of a sheet.
 const BYTES: usize = SheetByte::LIMIT as usize;
 
+// Stays: public; it answers yes or no, and the table is lent.
 pub fn read(sheet: &[u8], t: &mut [u32]) -> bool
     ensures value { result ≡ (leb (table_length (length sheet.now)) (length t.old) && is_some (rows_of sheet.now)) }
     ensures indexed { (rs : List (List ℕ)) → rows_of sheet.now ≡ some rs → table_length (length sheet.now) ≤ length t.old → Indexed rs t.new }
@@ -32,14 +32,12 @@ pub fn read(sheet: &[u8], t: &mut [u32]) -> bool
     if BYTES < sheet.len() {
         return false;
     }
-    match lexing::rows(sheet, t) {
-        Lexed::Rows(n) => {
-            if grammar::sheet_ok(t, n) {
-                kinds::index(t, n);
-                return true;
-            }
-            false
-        }
-        Lexed::Broken => false,
+    let Some(n) = lexing::rows(sheet, t) else {
+        return false;
+    };
+    if !grammar::sheet_ok(t, n) {
+        return false;
     }
+    kinds::index(t, n);
+    true
 }

@@ -7,36 +7,42 @@ ghost use Rattle.sheet.specs.Grammar.{plain_op, fixed_op, move_edit, remat_edit,
 
 use entity::cells::{Mark, Number, Word};
 
+#[tactic(auto, unfolding(rules::specs::Rows::field_ok, rules::specs::Rows::reading))]
 fn number(c: u32) -> bool
     ensures { result ≡ field_ok number c }
 {
     c < Number::LIMIT
 }
 
+#[tactic(auto, unfolding(rules::specs::Rows::field_ok, rules::specs::Rows::reading))]
 fn flag(c: u32) -> bool
     ensures { result ≡ field_ok flag c }
 {
     c < 2
 }
 
+#[tactic(auto, unfolding(rules::specs::Rows::field_ok, rules::specs::Rows::reading))]
 fn dash(c: u32) -> bool
     ensures { result ≡ field_ok dash c }
 {
     c == Word::DASH
 }
 
+#[tactic(auto, unfolding(rules::specs::Rows::field_ok, rules::specs::Rows::reading))]
 fn number_or_dash(c: u32) -> bool
     ensures { result ≡ field_ok number_or_dash c }
 {
     (c < Number::LIMIT) | (c == Word::DASH)
 }
 
+#[tactic(auto, unfolding(rules::specs::Rows::field_ok, rules::specs::Rows::reading))]
 fn place(c: u32) -> bool
     ensures { result ≡ field_ok place c }
 {
     (Mark::REG <= c) & (c < Mark::CLASS)
 }
 
+#[tactic(auto, unfolding(rules::specs::Rows::field_ok, rules::specs::Rows::reading))]
 fn constraint(c: u32) -> bool
     ensures { result ≡ field_ok constraint c }
 {
@@ -46,14 +52,7 @@ fn constraint(c: u32) -> bool
 fn numbers(cs: &[u32]) -> bool
     ensures { result ≡ all (field_ok number) cs.now }
 {
-    let mut i = 0;
-    while i < cs.len() {
-        if Number::LIMIT <= cs[i] {
-            return false;
-        }
-        i += 1;
-    }
-    true
+    cs.iter().all(|c| number(*c))
 }
 
 // At least n numbers: `group`, `vgroup`, `succ`, `pred` and `clob`.
@@ -61,10 +60,7 @@ fn listed(cs: &[u32], n: usize) -> bool
     requires { 1 ≤ n }
     ensures { result ≡ (leb n (length cs.now) && all (field_ok number) cs.now) }
 {
-    if cs.len() < n {
-        return false;
-    }
-    number(cs[0]) & numbers(&cs[1..])
+    (n <= cs.len()) & numbers(cs)
 }
 
 // At least n numbers, the second a flag: `reg` and `class`.
@@ -72,48 +68,52 @@ fn flagged(cs: &[u32], n: usize) -> bool
     requires { 2 ≤ n }
     ensures { result ≡ (leb n (length cs.now) && all (field_ok number) cs.now && field_ok flag (get_or cs.now 1 0)) }
 {
-    if cs.len() < n {
-        return false;
-    }
-    number(cs[0]) & flag(cs[1]) & numbers(&cs[2..])
+    listed(cs, n) && flag(cs[1])
 }
 
+#[tactic(auto, using(crate::proofs::Fitting::fits_1, crate::proofs::Fitting::not_1))]
 fn slots(cs: &[u32]) -> bool
     ensures { result ≡ fits (number ▸ end) cs.now }
 {
-    if cs.len() == 1 { number(cs[0]) } else { false }
+    match cs {
+        [n] => number(*n),
+        _ => false,
+    }
 }
 
+#[tactic(auto, using(crate::proofs::Fitting::fits_2, crate::proofs::Fitting::not_2))]
 fn value(cs: &[u32]) -> bool
     ensures { result ≡ fits (number ▸ number_or_dash ▸ end) cs.now }
 {
-    if cs.len() == 2 {
-        number(cs[0]) & number_or_dash(cs[1])
-    } else {
-        false
+    match cs {
+        [v, home] => number(*v) & number_or_dash(*home),
+        _ => false,
     }
 }
 
+#[tactic(auto, using(crate::proofs::Fitting::fits_4, crate::proofs::Fitting::not_4))]
 fn block(cs: &[u32]) -> bool
     ensures { result ≡ fits (number ▸ number ▸ number_or_dash ▸ flag ▸ end) cs.now }
 {
-    if cs.len() == 4 {
-        number(cs[0]) & number(cs[1]) & number_or_dash(cs[2]) & flag(cs[3])
-    } else {
-        false
+    match cs {
+        [b, instructions, idom, entry] => {
+            number(*b) & number(*instructions) & number_or_dash(*idom) & flag(*entry)
+        }
+        _ => false,
     }
 }
 
+#[tactic(auto, using(crate::proofs::Fitting::fits_3, crate::proofs::Fitting::not_3))]
 fn param(cs: &[u32]) -> bool
     ensures { result ≡ fits (number ▸ number ▸ place ▸ end) cs.now }
 {
-    if cs.len() == 3 {
-        number(cs[0]) & number(cs[1]) & place(cs[2])
-    } else {
-        false
+    match cs {
+        [b, value, at] => number(*b) & number(*value) & place(*at),
+        _ => false,
     }
 }
 
+#[tactic(auto, using(crate::proofs::Fitting::chain_5), unfolding(rules::specs::Rows::fits, crate::specs::Grammar::plain_op, rules::specs::Rows::reading))]
 fn plain(inst: u32, kind: u32, subject: u32, by: u32, at: u32) -> bool
     ensures { result ≡ fits plain_op (inst ∷ kind ∷ subject ∷ by ∷ at ∷ []) }
 {
@@ -124,28 +124,33 @@ fn plain(inst: u32, kind: u32, subject: u32, by: u32, at: u32) -> bool
         & place(at)
 }
 
+#[tactic(auto, using(crate::proofs::Fitting::chain_5), unfolding(rules::specs::Rows::fits, crate::specs::Grammar::fixed_op, rules::specs::Rows::reading))]
 fn fixed(inst: u32, kind: u32, subject: u32, by: u32, at: u32) -> bool
     ensures { result ≡ fits fixed_op (inst ∷ kind ∷ subject ∷ by ∷ at ∷ []) }
 {
     number(inst) & (kind == Word::FIXED) & dash(subject) & constraint(by) & place(at)
 }
 
+#[tactic(auto, using(crate::proofs::Fitting::op_is, crate::proofs::Fitting::not_op))]
 fn op(cs: &[u32]) -> bool
     ensures { result ≡ fits op_shape cs.now }
 {
-    if cs.len() == 5 {
-        plain(cs[0], cs[1], cs[2], cs[3], cs[4]) | fixed(cs[0], cs[1], cs[2], cs[3], cs[4])
-    } else {
-        false
+    match cs {
+        [inst, kind, subject, by, at] => {
+            plain(*inst, *kind, *subject, *by, *at) | fixed(*inst, *kind, *subject, *by, *at)
+        }
+        _ => false,
     }
 }
 
+#[tactic(auto, using(crate::proofs::Fitting::chain_5), unfolding(rules::specs::Rows::fits, crate::specs::Grammar::move_edit, rules::specs::Rows::reading))]
 fn moved(inst: u32, kind: u32, to: u32, from: u32, value: u32) -> bool
     ensures { result ≡ fits move_edit (inst ∷ kind ∷ to ∷ from ∷ value ∷ []) }
 {
     number(inst) & (kind == Word::MOVE) & place(to) & place(from) & number(value)
 }
 
+#[tactic(auto, using(crate::proofs::Fitting::chain_5), unfolding(rules::specs::Rows::fits, crate::specs::Grammar::remat_edit, rules::specs::Rows::reading))]
 fn remat(inst: u32, kind: u32, to: u32, from: u32, value: u32) -> bool
     ensures { result ≡ fits remat_edit (inst ∷ kind ∷ to ∷ from ∷ value ∷ []) }
 {
@@ -153,6 +158,7 @@ fn remat(inst: u32, kind: u32, to: u32, from: u32, value: u32) -> bool
 }
 
 // `espill` and `ereload`.
+#[tactic(auto, using(crate::proofs::Fitting::chain_5), unfolding(rules::specs::Rows::fits, crate::specs::Grammar::pair_edit, rules::specs::Rows::reading))]
 fn pair(inst: u32, kind: u32, to: u32, from: u32, value: u32) -> bool
     ensures { result ≡ fits pair_edit (inst ∷ kind ∷ to ∷ from ∷ value ∷ []) }
 {
@@ -163,12 +169,14 @@ fn pair(inst: u32, kind: u32, to: u32, from: u32, value: u32) -> bool
         & dash(value)
 }
 
+#[tactic(auto, using(crate::proofs::Fitting::chain_5), unfolding(rules::specs::Rows::fits, crate::specs::Grammar::none_edit, rules::specs::Rows::reading))]
 fn none(inst: u32, kind: u32, to: u32, from: u32, value: u32) -> bool
     ensures { result ≡ fits none_edit (inst ∷ kind ∷ to ∷ from ∷ value ∷ []) }
 {
     number(inst) & (kind == Word::NONE) & dash(to) & dash(from) & dash(value)
 }
 
+#[tactic(auto, unfolding(rules::specs::Rows::fits, rules::specs::Rows::edit_shape, crate::specs::Grammar::move_edit, crate::specs::Grammar::remat_edit, crate::specs::Grammar::pair_edit, crate::specs::Grammar::none_edit))]
 fn edited(inst: u32, kind: u32, to: u32, from: u32, value: u32) -> bool
     ensures { result ≡ fits edit_shape (inst ∷ kind ∷ to ∷ from ∷ value ∷ []) }
 {
@@ -177,17 +185,18 @@ fn edited(inst: u32, kind: u32, to: u32, from: u32, value: u32) -> bool
             | (pair(inst, kind, to, from, value) | none(inst, kind, to, from, value)))
 }
 
+#[tactic(auto, using(crate::proofs::Fitting::edit_is, crate::proofs::Fitting::not_edit))]
 fn edit(cs: &[u32]) -> bool
     ensures { result ≡ fits edit_shape cs.now }
 {
-    if cs.len() == 5 {
-        edited(cs[0], cs[1], cs[2], cs[3], cs[4])
-    } else {
-        false
+    match cs {
+        [inst, kind, to, from, value] => edited(*inst, *kind, *to, *from, *value),
+        _ => false,
     }
 }
 
 // What may stand after a kind's word.
+#[tactic(auto, using(crate::proofs::Fitting::two_or_more, crate::proofs::Fitting::three_or_more, crate::proofs::Fitting::flagged_two, crate::proofs::Fitting::flagged_three), unfolding(crate::specs::Grammar::fits_kind, rules::specs::Rows::reading))]
 fn after(kind: u32, cs: &[u32]) -> bool
     ensures { result ≡ fits_kind kind cs.now }
 {
@@ -197,24 +206,21 @@ fn after(kind: u32, cs: &[u32]) -> bool
         Word::CLASS => flagged(cs, 2),
         Word::GROUP => listed(cs, 3),
         Word::VALUE => value(cs),
-        Word::VGROUP => listed(cs, 2),
+        Word::VGROUP | Word::SUCC | Word::PRED | Word::CLOB => listed(cs, 2),
         Word::BLOCK => block(cs),
-        Word::SUCC => listed(cs, 2),
-        Word::PRED => listed(cs, 2),
         Word::PARAM => param(cs),
         Word::OP => op(cs),
-        Word::CLOB => listed(cs, 2),
         Word::EDIT => edit(cs),
         _ => false,
     }
 }
 
+#[tactic(auto, using(crate::proofs::Fitting::row_is, crate::proofs::Fitting::no_row))]
 pub fn row_ok(row: &[u32]) -> bool
     ensures { result ≡ row_ok row.now }
 {
-    if row.len() == 0 {
-        false
-    } else {
-        after(row[0], &row[1..])
+    match row {
+        [kind, cs @ ..] => after(*kind, cs),
+        [] => false,
     }
 }

@@ -10,7 +10,7 @@ use lib.ListN.{length, get_or, set, length-set}
 use lib.Seq.{ext_get_or, get_or-set_same, get_or-set_other}
 use lib.Dec.{eqb, ltb, leb}
 use Rattle.entity.specs.Limits.{block_limit, reg_limit, slot_limit}
-use borrow.Author.Tests.{lt-ltb, le-ltb, ltb-true, le-leb, leb-true}
+use borrow.Author.Tests.{lt-ltb, ltb-true, le-leb, leb-true}
 use Rattle.laws.proofs.Cases.{by_eq, by_lt}
 use Rattle.table.proofs.Sheets.{members_long, members_at}
 use Rattle.table.proofs.Loops.{and_left, and_right, never}
@@ -52,14 +52,6 @@ module _ (s : List ℕ) (b : ℕ) where
   pub fits_yes : b < block_limit → state_at (b + 1) ≤ length s → fits s b ≡ true
   unfolding fits
   fits_yes h l = rw (lt-ltb b block_limit h, le-leb (state_at (b + 1)) (length s) l)
-
-  pub fits_far : block_limit ≤ b → ltb b block_limit ≡ fits s b
-  unfolding fits
-  fits_far h = rw (le-ltb b block_limit h)
-
-  pub fits_long : b < block_limit → leb (state_at (b + 1)) (length s) ≡ fits s b
-  unfolding fits
-  fits_long h = rw (lt-ltb b block_limit h)
 
   pub fits_below : fits s b ≡ true → b < block_limit
   unfolding fits
@@ -103,14 +95,6 @@ known_at_lem l l' at u w e j h =
     ap (λ (x : ℕ). get_or l x 0) (omega arith) ∙ sym (section_at l (at + reg_limit) slot_limit (omega arith) (j - reg_limit) (omega arith))
     ∙ ap (λ (k : Known). get_or k.stored (j - reg_limit) 0) e ∙ section_at l' (at + reg_limit) slot_limit (omega arith) (j - reg_limit) (omega arith)
     ∙ ap (λ (x : ℕ). get_or l' x 0) (omega arith))
-
-pub set_hit : (s : List ℕ) (b : ℕ) → fits s b ≡ true → eqb (get_or s b 0) 1 ≡ is_set s b
-unfolding is_set
-set_hit s b h = rw h
-
-pub set_miss : (s : List ℕ) (b : ℕ) → fits s b ≡ false → false ≡ is_set s b
-unfolding is_set
-set_miss s b h = rw h
 
 pub set_fits : (s : List ℕ) (b : ℕ) → is_set s b ≡ true → fits s b ≡ true
 unfolding is_set

@@ -1,41 +1,21 @@
 -- The first state of a block: `set_nothing`, `handed` and `first_state` of src/handed.rt store `nothing` and `first_state`. Assumes nothing.
 use mathlib.Core.Path.{◌≡◌, refl, sym, ap, ◌∙◌}
-use mathlib.Core.Bool.{Bool, true, false, cond, ◌&&◌}
+use mathlib.Core.Bool.{Bool, true, false, cond}
 use mathlib.Core.List.{List}
-use Prim.Native.Nat.{ℕ, ◌+◌, ◌≤◌, ◌<◌}
+use Prim.Native.Nat.{ℕ, ◌+◌, ◌≤◌}
 use native.Mathlib.Omega.{arith}
 use lib.ListN.{length, get_or, replicate, length-map}
-use lib.Dec.{leb}
 use Rattle.entity.specs.Limits.{reg_limit, slot_limit}
-use borrow.Author.Tests.{le-leb, lt-leb}
 use Rattle.rules.specs.Sheet.{Sheet}
 use Rattle.rules.specs.Record.{nothing, absent}
 use Rattle.rules.specs.Forward.{skips, first_state}
-use Rattle.record.specs.Layout.{held_at, stored_at}
-use Rattle.record.specs.Flat.{section, defined_in, record_in, Long}
-use Rattle.record.proofs.Sections.{defined_is}
+use Rattle.record.specs.Layout.{held_at, stored_at, record_length}
+use Rattle.record.specs.Flat.{section, record_in}
+use Rattle.record.proofs.Parts.{length-section}
 use Rattle.states.specs.Layout.{known_size}
 use Rattle.states.specs.States.{known_at, handed_in, sole_in}
-use Rattle.states.proofs.Spans.{Span, section_long, section_at, section_filled, map_at}
+use Rattle.states.proofs.Spans.{Span, section_at, section_filled, map_at}
 use Rattle.states.proofs.Cells.{known_is}
-
-module _ (rec : List ℕ) (sole : Bool) (b v x : ℕ) where
-  pub handed_none : v ≡ absent → absent ≡ handed_in rec sole b v
-  handed_none e = rw e (go (sole && leb b (defined_in rec absent)))
-    where
-      go : (t : Bool) → absent ≡ cond t absent absent
-      go true = refl
-      go false = refl
-
-  pub handed_yes : sole ≡ true → x ≡ defined_in rec v → b ≤ x → absent ≡ handed_in rec sole b v
-  handed_yes e d h = rw (e, ← d, le-leb b x h)
-
-  pub handed_no : x ≡ defined_in rec v → x < b → v ≡ handed_in rec sole b v
-  handed_no d h = rw (← d, lt-leb b x h) (go sole)
-    where
-      go : (t : Bool) → v ≡ cond (t && false) absent v
-      go true = refl
-      go false = refl
 
 module _ (states states' : List ℕ) (at : ℕ) (fits : at + known_size ≤ length states) where
   pub nothing_known : Span at (λ j. absent) states known_size states' → known_at states' at ≡ nothing
@@ -47,19 +27,19 @@ module _ (states states' : List ℕ) (at : ℕ) (fits : at + known_size ≤ leng
       section_filled states' (at + reg_limit) slot_limit absent (omega arith) (λ j h. ap (λ (i : ℕ). get_or states' i 0) (omega arith) ∙ p.done (reg_limit + j) (omega arith)) in
       rw (a, b)
 
-  module _ (sh : Sheet) (rec : List ℕ) (long : Long rec) where
-    is_skip : (sole : Bool) (b v : ℕ) → handed_in rec sole b v ≡ cond (skips sh (sole_in sole b) (record_in rec) v) absent v
+  module _ (sh : Sheet) (rec : List ℕ) (long : record_length ≤ length rec) where
+    is_skip : (sole : Bool) (b v : ℕ) → handed_in (record_in rec) sole b v ≡ cond (skips sh (sole_in sole b) (record_in rec) v) absent v
     unfolding skips
-    is_skip true b v = rw (defined_is rec long v)
+    is_skip true b v = refl
     is_skip false b v = refl
 
-    pub first_known : (sole : Bool) (b : ℕ) → Span at (λ j. handed_in rec sole b (get_or rec (held_at + j) 0)) states known_size states'
+    pub first_known : (sole : Bool) (b : ℕ) → Span at (λ j. handed_in (record_in rec) sole b (get_or rec (held_at + j) 0)) states known_size states'
         → known_at states' at ≡ first_state sh (sole_in sole b) (record_in rec)
     unfolding first_state record_in
     first_known sole b p =
         let m : length states' ≡ length states = p.long in
-        let one : length (section rec held_at reg_limit) ≡ reg_limit = section_long rec held_at reg_limit (omega arith) in
-        let two : length (section rec stored_at slot_limit) ≡ slot_limit = section_long rec stored_at slot_limit (omega arith) in
+        let one : length (section rec held_at reg_limit) ≡ reg_limit = length-section rec held_at reg_limit (omega arith) in
+        let two : length (section rec stored_at slot_limit) ≡ slot_limit = length-section rec stored_at slot_limit (omega arith) in
         let g : ℕ → ℕ = λ v. cond (skips sh (sole_in sole b) (record_in rec) v) absent v in
         known_is states' at (first_state sh (sole_in sole b) (record_in rec)) (omega arith) (length-map (section rec held_at reg_limit) g ∙ one) (length-map (section rec stored_at slot_limit) g ∙ two)
         (λ j h.

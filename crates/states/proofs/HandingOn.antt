@@ -23,7 +23,6 @@ use Rattle.bits.specs.declared.sets.NumberSet.{NumberSet}
 use Rattle.rules.specs.Sheet.{Sheet, ListRow, list_at, block_count, succs_of}
 use Rattle.rules.specs.Record.{Record, Known}
 use Rattle.rules.specs.Forward.{Handed, skips, hand_to, hand_on, first_state, same_known}
-use Rattle.record.specs.Flat.{record_in}
 use Rattle.states.specs.Layout.{state_at}
 use Rattle.states.specs.States.{known_at, is_set, state_in, Sets, sole_in, met_in, Meets, Lies}
 use Rattle.states.proofs.Spans.{run_take}
@@ -32,22 +31,22 @@ use Rattle.states.proofs.Cells.{roomy_same, states_at}
 -- one more block waits
 pub waits : (b : ℕ) (w w' : NumberSet) (l : List ℕ) → w' ≡ set_of (λ k. has w k || eqb k b) → ((c : ℕ) → c < set_limit → has w c ≡ is_in c l)
     → (c : ℕ) → c < set_limit → has w' c ≡ is_in c (b ∷ l)
-unfolding is_in any
+unfolding is_in
 waits b w w' l e f c u =
     ap (λ (x : NumberSet). has x c) e ∙ has_words_of 4 (λ k. has w k || eqb k b) c u
     ∙ ap (λ (t : Bool). t || eqb c b) (f c u) ∙ or_comm (any (eqb c) l) (eqb c b)
 
 pub waits_below : (n b : ℕ) (l : List ℕ) → b < n → ((c : ℕ) → n ≤ c → is_in c l ≡ false) → (c : ℕ) → n ≤ c → is_in c (b ∷ l) ≡ false
-unfolding is_in any
+unfolding is_in
 waits_below n b l h f c u = rw (ne_eqb c b (λ q. omega arith)) (f c u)
 
-module _ (sh : Sheet) (n a b : ℕ) (rec s s' : List ℕ) (w w' : NumberSet) (h : Handed) (below : b < n) (lies : Lies n s w h) where
+module _ (sh : Sheet) (n a b : ℕ) (rec : Record) (s s' : List ℕ) (w w' : NumberSet) (h : Handed) (below : b < n) (lies : Lies n s w h) where
   known : get_or h.states b none ≡ state_in s b
   known = ap (λ (x : List (Option Known)). get_or x b none) (sym lies.are) ∙ states_at s n b below
 
-  pub hand_first : (sole : Bool) → is_set s b ≡ false → Sets s s' b (first_state sh (sole_in sole b) (record_in rec))
-      → first_state sh (sole_in sole b) (record_in rec) ≡ first_state sh (succs_of sh a) (record_in rec) → w' ≡ set_of (λ k. has w k || eqb k b)
-      → Lies n s' w' (hand_to sh a (record_in rec) h b)
+  pub hand_first : (sole : Bool) → is_set s b ≡ false → Sets s s' b (first_state sh (sole_in sole b) rec)
+      → first_state sh (sole_in sole b) rec ≡ first_state sh (succs_of sh a) rec → w' ≡ set_of (λ k. has w k || eqb k b)
+      → Lies n s' w' (hand_to sh a rec h b)
   unfolding hand_to state_in Option-elim
   hand_first sole e sets first v =
       let x : get_or h.states b none ≡ none = known ∙ ap (λ (z : Bool). cond z (some (known_at s (state_at b))) none) e in
@@ -59,7 +58,7 @@ module _ (sh : Sheet) (n a b : ℕ) (rec s s' : List ℕ) (w w' : NumberSet) (h 
       })
 
   pub hand_met : (r : Bool) → is_set s b ≡ true → (is_set s b ≡ true → Meets sh rec s s' b r)
-      → (r ≡ true → w' ≡ set_of (λ k. has w k || eqb k b)) → (r ≡ false → w' ≡ w) → Lies n s' w' (hand_to sh a (record_in rec) h b)
+      → (r ≡ true → w' ≡ set_of (λ k. has w k || eqb k b)) → (r ≡ false → w' ≡ w) → Lies n s' w' (hand_to sh a rec h b)
   unfolding hand_to state_in Option-elim
   hand_met r e t y' n' =
       let x : get_or h.states b none ≡ some (known_at s (state_at b)) = known ∙ ap (λ (z : Bool). cond z (some (known_at s (state_at b))) none) e in
@@ -94,13 +93,12 @@ one_of sh s (x ∷ y ∷ l) k h =
 -- ---- the successors exist
 
 all_append : (q : ℕ → Bool) (xs ys : List ℕ) → all q xs ≡ true → all q ys ≡ true → all q (xs ++ ys) ≡ true
-unfolding all
 all_append q [] ys e f = f
 all_append q (x ∷ xs) ys e f = and_both (q x) (all q (xs ++ ys)) (and_left (q x) (all q xs) e) (all_append q xs ys (and_right (q x) (all q xs) e) f)
 
 all_listed : (sh : Sheet) (p : ListRow → Bool) (q : ℕ → Bool) (rows : List ListRow) (a : ℕ) → all (λ s. p s && all q s.list) rows ≡ true
     → all q (list_at sh rows a) ≡ true
-unfolding all list_at keep flat_map
+unfolding list_at keep flat_map
 all_listed sh p q [] a e = refl
 all_listed sh p q (r ∷ rows) a e =
     let rest : all q (list_at sh rows a) ≡ true = all_listed sh p q rows a (and_right (p r && all q r.list) (all (λ s. p s && all q s.list) rows) e) in
@@ -116,19 +114,19 @@ succs_exist t g a k h =
 
 -- ---- handing to each successor
 
-pub hand_next : (t : List ℕ) (a k : ℕ) (l rec s s' : List ℕ) (w w' : NumberSet) (h : Handed) → Ready t → l ≡ succs_of (sheet_in t) a → k < length l
-    → Lies (block_count (sheet_in t)) s w (run (hand_to (sheet_in t) a (record_in rec)) h (take k l))
+pub hand_next : (t : List ℕ) (a k : ℕ) (l : List ℕ) (rec : Record) (s s' : List ℕ) (w w' : NumberSet) (h : Handed) → Ready t → l ≡ succs_of (sheet_in t) a → k < length l
+    → Lies (block_count (sheet_in t)) s w (run (hand_to (sheet_in t) a rec) h (take k l))
     → ((sh : Sheet) (n a : ℕ) (h : Handed) → get_or l k 0 < n
-    → first_state sh (sole_in (eqb (length l) 1) (get_or l k 0)) (record_in rec) ≡ first_state sh (succs_of sh a) (record_in rec)
-    → Lies n s w h → Lies n s' w' (hand_to sh a (record_in rec) h (get_or l k 0)))
-    → Lies (block_count (sheet_in t)) s' w' (run (hand_to (sheet_in t) a (record_in rec)) h (take (k + 1) l))
+    → first_state sh (sole_in (eqb (length l) 1) (get_or l k 0)) rec ≡ first_state sh (succs_of sh a) rec
+    → Lies n s w h → Lies n s' w' (hand_to sh a rec h (get_or l k 0)))
+    → Lies (block_count (sheet_in t)) s' w' (run (hand_to (sheet_in t) a rec) h (take (k + 1) l))
 hand_next t a k l rec s s' w w' h g e u lies step =
     let sh = sheet_in t in
-    rw (run_take (hand_to sh a (record_in rec)) 0 h l k u)
-    (step sh (block_count sh) a (run (hand_to sh a (record_in rec)) h (take k l))
-    (rw e (succs_exist t g a k (rw e at u))) (one_of sh (record_in rec) l k u ∙ ap (λ (x : List ℕ). first_state sh x (record_in rec)) e) lies)
+    rw (run_take (hand_to sh a rec) 0 h l k u)
+    (step sh (block_count sh) a (run (hand_to sh a rec) h (take k l))
+    (rw e (succs_exist t g a k (rw e at u))) (one_of sh rec l k u ∙ ap (λ (x : List ℕ). first_state sh x rec) e) lies)
 
-pub hand_end : (t : List ℕ) (a k : ℕ) (l rec s : List ℕ) (w : NumberSet) (h : Handed) → l ≡ succs_of (sheet_in t) a → length l ≤ k
-    → Lies (block_count (sheet_in t)) s w (run (hand_to (sheet_in t) a (record_in rec)) h (take k l)) → Lies (block_count (sheet_in t)) s w (hand_on (sheet_in t) a (record_in rec) h)
+pub hand_end : (t : List ℕ) (a k : ℕ) (l : List ℕ) (rec : Record) (s : List ℕ) (w : NumberSet) (h : Handed) → l ≡ succs_of (sheet_in t) a → length l ≤ k
+    → Lies (block_count (sheet_in t)) s w (run (hand_to (sheet_in t) a rec) h (take k l)) → Lies (block_count (sheet_in t)) s w (hand_on (sheet_in t) a rec h)
 unfolding hand_on
 hand_end t a k l rec s w h e u lies = rw (← e) (rw (take_all k l u) at lies)

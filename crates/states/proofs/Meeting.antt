@@ -14,27 +14,28 @@ use Rattle.rules.specs.Text.{same}
 use Rattle.rules.specs.Sheet.{Sheet}
 use Rattle.rules.specs.Record.{Known, absent}
 use Rattle.rules.specs.Forward.{meet, same_known}
-use Rattle.record.specs.Layout.{held_at, stored_at}
-use Rattle.record.specs.Flat.{section, record_in, Long}
+use Rattle.record.specs.Layout.{held_at, stored_at, record_length}
+use Rattle.record.specs.Flat.{section, record_in}
+use Rattle.record.proofs.Parts.{length-section}
 use Rattle.states.specs.Layout.{known_size, state_at}
 use Rattle.states.specs.States.{known_at, is_set, met_in, Meets, fits}
-use Rattle.states.proofs.Spans.{Span, span_store, Kept, kept_next, section_long, section_at, zip_long, zip_at}
+use Rattle.states.proofs.Spans.{Span, span_store, Kept, kept_next, section_at, zip_long, zip_at}
 use Rattle.states.proofs.Cells.{known_is, known_same, known_at_lem, stored_sets, fits_room, set_fits}
 
 -- number j of the state at `at`, if the record knows it too
 abbrev pub met_at : List ℕ → List ℕ → ℕ → ℕ → ℕ
 met_at rec states at j = cond (eqb (get_or states (at + j) 0) (get_or rec (held_at + j) 0)) (get_or states (at + j) 0) absent
 
-module _ (states states' : List ℕ) (at : ℕ) (fits : at + known_size ≤ length states) (sh : Sheet) (rec : List ℕ) (long : Long rec) where
+module _ (states states' : List ℕ) (at : ℕ) (fits : at + known_size ≤ length states) (sh : Sheet) (rec : List ℕ) (long : record_length ≤ length rec) where
   pub met_known : Span at (met_at rec states at) states known_size states'
       → known_at states' at ≡ meet sh (known_at states at) (record_in rec).known
   unfolding meet record_in
   met_known p =
       let m : length states' ≡ length states = p.long in
-      let a : length (section rec held_at reg_limit) ≡ reg_limit = section_long rec held_at reg_limit (omega arith) in
-      let b : length (section rec stored_at slot_limit) ≡ slot_limit = section_long rec stored_at slot_limit (omega arith) in
-      let c : length (section states at reg_limit) ≡ reg_limit = section_long states at reg_limit (omega arith) in
-      let d : length (section states (at + reg_limit) slot_limit) ≡ slot_limit = section_long states (at + reg_limit) slot_limit (omega arith) in
+      let a : length (section rec held_at reg_limit) ≡ reg_limit = length-section rec held_at reg_limit (omega arith) in
+      let b : length (section rec stored_at slot_limit) ≡ slot_limit = length-section rec stored_at slot_limit (omega arith) in
+      let c : length (section states at reg_limit) ≡ reg_limit = length-section states at reg_limit (omega arith) in
+      let d : length (section states (at + reg_limit) slot_limit) ≡ slot_limit = length-section states (at + reg_limit) slot_limit (omega arith) in
       let g : ℕ → ℕ → ℕ = λ v x. cond (eqb v x) v absent in
       known_is states' at (meet sh (known_at states at) (record_in rec).known) (omega arith)
       (zip_long g (section states at reg_limit) (section rec held_at reg_limit) (c ∙ sym a) ∙ c)
@@ -96,30 +97,30 @@ met_next rec s at i s' went l went' p k h e w =
     (span_store at (met_at rec s at) s i s' l p z h, kept_next (met_at rec s at) (λ j. get_or s (at + j) 0) i went went' k y)
 
 -- block b's state loses what the record does not know
-module _ (sh : Sheet) (rec s s' : List ℕ) (b : ℕ) (went : Bool) (long : Long rec) where
+module _ (sh : Sheet) (rec s s' : List ℕ) (b : ℕ) (went : Bool) (long : record_length ≤ length rec) where
   pub met : is_set s b ≡ true → Span (state_at b) (met_at rec s (state_at b)) s known_size s' → Kept (met_at rec s (state_at b)) (λ j. get_or s (state_at b + j) 0) known_size went
-      → Meets sh rec s s' b went
+      → Meets sh (record_in rec) s s' b went
   unfolding is_set
   met e p k =
       let fit : fits s b ≡ true = set_fits s b e in
       let room : state_at (b + 1) ≤ length s = fits_room s b fit in
       let m : length s' ≡ length s = p.long in
-      let is : known_at s' (state_at b) ≡ met_in sh rec s b = met_known s s' (state_at b) (omega arith) sh rec long p in
+      let is : known_at s' (state_at b) ≡ met_in sh (record_in rec) s b = met_known s s' (state_at b) (omega arith) sh rec long p in
       record {
-        sets = stored_sets (met_at rec s (state_at b)) s s s' b (met_in sh rec s b) fit refl
+        sets = stored_sets (met_at rec s (state_at b)) s s s' b (met_in sh (record_in rec) s b) fit refl
             (eqb-true (get_or s b 0) 1 (and_right (fits s b) (eqb (get_or s b 0) 1) e)) (λ j d. refl) p is;
         went = by_bool went
             (λ t.
-            by_bool (same_known sh (known_at s (state_at b)) (met_in sh rec s b))
+            by_bool (same_known sh (known_at s (state_at b)) (met_in sh (record_in rec) s b))
             (λ y.
             absurd (k.yes t (λ j u.
             sym (p.done j u)
-            ∙ sym (known_at_lem s s' (state_at b) (omega arith) (omega arith) (known_eq sh (known_at s (state_at b)) (met_in sh rec s b) y ∙ sym is) j u))))
+            ∙ sym (known_at_lem s s' (state_at b) (omega arith) (omega arith) (known_eq sh (known_at s (state_at b)) (met_in sh (record_in rec) s b) y ∙ sym is) j u))))
             (λ n. t ∙ sym (ap not n)))
             (λ f.
             let q : known_at s' (state_at b) ≡ known_at s (state_at b) = known_same s s' (state_at b) m (omega arith) (λ j u. p.done j u ∙ k.no f j u) in
             f ∙ sym (ap not (ap (same_known sh (known_at s (state_at b))) (sym is ∙ q) ∙ known_refl sh (known_at s (state_at b)))));
       }
 
-  pub unmet : fits s b ≡ false → is_set s b ≡ true → Meets sh rec s s' b went
+  pub unmet : fits s b ≡ false → is_set s b ≡ true → Meets sh (record_in rec) s s' b went
   unmet h e = never (sym h ∙ set_fits s b e)

@@ -4,7 +4,7 @@ use mathlib.Core.Bool.{Bool, true, false, not, ◌||◌}
 use mathlib.Core.List.{List, [], ◌∷◌, map, zip_with}
 use Prim.Native.Nat.{ℕ, zero, suc, ◌+◌, ◌≤◌, ◌<◌}
 use native.Mathlib.Omega.{arith}
-use lib.ListN.{length, get_or, set, take, drop, replicate, length-take, length-drop, length-replicate, get_or-replicate}
+use lib.ListN.{length, get_or, take, drop, replicate, length-replicate, get_or-replicate}
 use lib.Dec.{eqb}
 use borrow.Author.Tests.{eq-eqb, ne_eqb}
 use native.Mathlib.Numerals.{add-one}
@@ -17,28 +17,23 @@ pub use Rattle.laws.specs.Spans.{Span}
 pub use Rattle.laws.proofs.Lists.{span_none, span_store}
 use Rattle.table.proofs.Loops.{never}
 use Rattle.record.specs.Flat.{section}
-
--- the part at the front
-pub span_front : (f : ℕ → ℕ) (l : List ℕ) (i : ℕ) (l' : List ℕ) (v : ℕ) → Span 0 f l i l' → v ≡ f i → i < length l → Span 0 f l (i + 1) (set l' i v)
-span_front f l i l' v p e h = let z : 0 + i ≡ i = omega arith in rw z at (span_store 0 f l i l' v p e (omega arith))
+use Rattle.record.proofs.Parts.{length-section}
+pub use Rattle.record.proofs.Parts.{span_put, span_filled}
 
 module _ (l : List ℕ) (at k : ℕ) (fits : at + k ≤ length l) where
-  pub section_long : length (section l at k) ≡ k
-  section_long = simp (length-take, length-drop) (omega arith)
-
   pub section_at : (j : ℕ) → j < k → get_or (section l at k) j 0 ≡ get_or l (at + j) 0
   section_at j h = get_or-take k (drop at l) j 0 h ∙ get_or-drop at l j 0
 
   -- a part is the list that has its elements
   pub section_is : (m : List ℕ) → length m ≡ k → ((j : ℕ) → j < k → get_or l (at + j) 0 ≡ get_or m j 0) → section l at k ≡ m
   section_is m e h =
-      let s : length (section l at k) ≡ k = section_long in
+      let s : length (section l at k) ≡ k = length-section l at k fits in
       ext_get_or 0 (section l at k) m (s ∙ sym e) (λ j u. section_at j (omega arith) ∙ h j (omega arith))
 
 -- the same part of two lists that agree there
 pub section_same : (l l' : List ℕ) (at k : ℕ) → length l' ≡ length l → at + k ≤ length l → ((j : ℕ) → j < k → get_or l' (at + j) 0 ≡ get_or l (at + j) 0) → section l' at k ≡ section l at k
 section_same l l' at k e fits h =
-    section_is l' at k (omega arith) (section l at k) (section_long l at k fits) (λ j u. h j u ∙ sym (section_at l at k fits j u))
+    section_is l' at k (omega arith) (section l at k) (length-section l at k fits) (λ j u. h j u ∙ sym (section_at l at k fits j u))
 
 -- `went` tells if one of the first i stores changed something
 pub record Kept (f v : ℕ → ℕ) (i : ℕ) (went : Bool) : Type 0 where
@@ -46,9 +41,6 @@ pub record Kept (f v : ℕ → ℕ) (i : ℕ) (went : Bool) : Type 0 where
   pub yes : went ≡ true → ((j : ℕ) → j < i → f j ≡ v j) → ⊥
 
 module _ (f v : ℕ → ℕ) where
-  pub kept_none : Kept f v 0 false
-  kept_none = record { no = λ e j h. absurd (omega arith); yes = λ e. never e }
-
   pub kept_next : (i : ℕ) (went went' : Bool) → Kept f v i went → went' ≡ (went || not (eqb (f i) (v i))) → Kept f v (i + 1) went'
   kept_next i true went' k e = record { no = λ z. never (sym z ∙ e); yes = λ z g. k.yes refl (λ j h. g j (omega arith)) }
   kept_next i false went' k e =

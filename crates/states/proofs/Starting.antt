@@ -107,7 +107,7 @@ module _ (f : ℕ → Bool) where
 
 module _ (sh : Sheet) (s : List ℕ) (w : NumberSet) where
   pub forward_starts : Started (begins_empty sh) (block_count sh) s (block_count sh) → w ≡ set_of (λ k. false) → Lies (block_count sh) s w (forward_start sh)
-  unfolding forward_start is_in any
+  unfolding forward_start is_in
   forward_starts p e =
       record {
         room = p.room;

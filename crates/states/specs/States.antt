@@ -6,9 +6,9 @@ use Rattle.entity.specs.Limits.{block_limit, reg_limit, slot_limit}
 use Rattle.bits.specs.Sets.{has, set_limit}
 use Rattle.bits.specs.declared.sets.NumberSet.{NumberSet}
 use Rattle.rules.specs.Sheet.{Sheet}
-use Rattle.rules.specs.Record.{Known, nothing, absent}
+use Rattle.rules.specs.Record.{Record, Known, nothing, absent}
 use Rattle.rules.specs.Forward.{Handed, meet, same_known}
-use Rattle.record.specs.Flat.{section, defined_in, record_in}
+use Rattle.record.specs.Flat.{section}
 use Rattle.states.specs.Layout.{state_at}
 
 -- the table has room for the states of the first n blocks
@@ -41,8 +41,8 @@ pub record Sets (states states' : List ℕ) (b : ℕ) (k : Known) : Type 0 where
   pub are : (n : ℕ) → Roomy n states → states_in states' n ≡ set (states_in states n) b (some k)
 
 -- v as it is handed to block b, the sole successor or one of several
-abbrev pub handed_in : List ℕ → Bool → ℕ → ℕ → ℕ
-handed_in rec sole b v = cond (sole && leb b (defined_in rec v)) absent v
+abbrev pub handed_in : Record → Bool → ℕ → ℕ → ℕ
+handed_in s sole b v = cond (sole && leb b (get_or s.blocks.defined v absent)) absent v
 
 -- the sole successor, as a list
 abbrev pub sole_in : Bool → ℕ → List ℕ
@@ -70,10 +70,10 @@ abbrev pub Waits : (ℕ → Bool) → NumberSet → ℕ → Type 0
 Waits f w i = (b : ℕ) → b < set_limit → has w b ≡ (ltb b i && f b)
 
 -- what is left of block b's state: what the record knows too
-abbrev pub met_in : Sheet → List ℕ → List ℕ → ℕ → Known
-met_in sh rec states b = meet sh (known_at states (state_at b)) (record_in rec).known
+abbrev pub met_in : Sheet → Record → List ℕ → ℕ → Known
+met_in sh s states b = meet sh (known_at states (state_at b)) s.known
 
 -- block b's state loses what the record does not know; r tells if something went
-pub record Meets (sh : Sheet) (rec states states' : List ℕ) (b : ℕ) (r : Bool) : Type 0 where
-  pub sets : Sets states states' b (met_in sh rec states b)
-  pub went : r ≡ not (same_known sh (known_at states (state_at b)) (met_in sh rec states b))
+pub record Meets (sh : Sheet) (s : Record) (states states' : List ℕ) (b : ℕ) (r : Bool) : Type 0 where
+  pub sets : Sets states states' b (met_in sh s states b)
+  pub went : r ≡ not (same_known sh (known_at states (state_at b)) (met_in sh s states b))

@@ -9,19 +9,19 @@ ghost use Rattle.rules.specs.Record.{Known, nothing, absent, with_known, begins}
 ghost use Rattle.rules.specs.Forward.{Handed, write_held, take_in, first_state, meet, same_known, hand_to, hand_on};
 ghost use Rattle.table.specs.Sheet.{sheet_in};
 ghost use Rattle.table.specs.Index.{Ready};
-ghost use Rattle.record.specs.Flat.{record_in, Long, Becomes};
+ghost use Rattle.record.specs.Flat.{record_of};
 ghost use Rattle.states.specs.Layout.{known_size, state_at};
 ghost use Rattle.states.specs.States.{fits, known_at, is_set, state_in, Sets, handed_in, sole_in, Meets, Lies};
 
 use entity::numbers::{Block, PhysReg, SpillSlot, Value};
 use entity::sets::BlockSet;
 use graph::succs;
-use record::flat::{HELD, LENGTH, NONE, defined, held};
-use record::steps::write_units;
+use record::flat::{DEFINED, HELD, NONE, WalkRecord};
 use table::rows::{Kind, count};
 use table::view::units;
 
 // How many numbers a state has.
+// Stays: a flat table of numbers (document 01), its layout named once.
 pub const KNOWN: usize = PhysReg::LIMIT as usize + SpillSlot::LIMIT as usize;
 
 // A flag for each block, 1 once its state is set; and behind the flags the states, block after block.
@@ -34,85 +34,72 @@ pub fn layout_agrees()
 {}
 
 // The table has room for block b.
+#[tactic(auto, unfolding(crate::specs::States::fits))]
 fn fits(states: &[u32], b: Block) -> bool
     ensures { result ≡ fits states.now b.0 }
 {
     b.0 < Block::LIMIT && FLAGS + (b.0 as usize + 1) * KNOWN <= states.len()
 }
 
+#[tactic(auto, unfolding(crate::specs::States::is_set, crate::specs::States::fits))]
 fn is_set(states: &[u32], b: Block) -> bool
     ensures { result ≡ is_set states.now b.0 }
 {
-    if fits(states, b) {
-        return states[b.0 as usize] == 1;
-    }
-    false
+    fits(states, b) && states[b.0 as usize] == 1
 }
 
 // Block b begins with nothing known.
+#[tactic(auto, unfolding(crate::specs::States::fits))]
 pub(crate) fn set_nothing(states: &mut [u32], b: Block)
     ensures { Sets states.old states.new b.0 nothing }
 {
     if fits(states, b) {
         states[b.0 as usize] = 1;
         let at = FLAGS + b.0 as usize * KNOWN;
-        let mut i: usize = 0;
-        while i < KNOWN {
-            states[at + i] = NONE;
-            i += 1;
-        }
+        states[at..at + KNOWN].fill(NONE);
     }
 }
 
 // Empties last writes, registers and slots.
-pub fn begin_empty(rec: &mut [u32; LENGTH])
-    ensures { Long rec.old → Becomes rec.old rec.new (begins nothing (record_in rec.old)) }
+pub fn begin_empty(rec: &mut WalkRecord)
+    ensures { record_of rec.new ≡ begins nothing (record_of rec.old) }
 {
-    let mut i: usize = 0;
-    while i < HELD + KNOWN {
-        rec[i] = NONE;
-        i += 1;
-    }
+    rec.cells[..DEFINED].fill(NONE);
 }
 
 // The record takes a block's state in place of its own.
-fn take_known(rec: &mut [u32; LENGTH], states: &[u32], b: Block)
-    ensures { Long rec.old → fits states.now b.0 ≡ true → Becomes rec.old rec.new (with_known (known_at states.now (state_at b.0)) (record_in rec.old)) }
+#[tactic(auto, unfolding(crate::specs::States::fits))]
+fn take_known(rec: &mut WalkRecord, states: &[u32], b: Block)
+    ensures { fits states.now b.0 ≡ true → record_of rec.new ≡ with_known (known_at states.now (state_at b.0)) (record_of rec.old) }
 {
     if fits(states, b) {
         let at = FLAGS + b.0 as usize * KNOWN;
-        let mut i: usize = 0;
-        while i < KNOWN {
-            rec[HELD + i] = states[at + i];
-            i += 1;
-        }
+        rec.cells[HELD..DEFINED].copy_from_slice(&states[at..at + KNOWN]);
     }
 }
 
 // A register pair also is its units' last write.
-fn write_held(t: &[u32], rec: &mut [u32; LENGTH], r: PhysReg)
-    ensures { Long rec.old → Becomes rec.old rec.new (write_held (sheet_in t.now) (record_in rec.old).known.held (record_in rec.old) r.0) }
+#[tactic(auto, unfolding(rules::specs::Forward::write_held))]
+fn write_held(t: &[u32], rec: &mut WalkRecord, r: PhysReg)
+    ensures { record_of rec.new ≡ write_held (sheet_in t.now) (record_of rec.old).known.held (record_of rec.old) r.0 }
 {
-    let v = held(rec, r);
+    let v = rec.held(r);
     if v != NONE {
-        write_units(rec, units(t, r), r, Value(v));
+        rec.write_units(units(t, r), r, Value(v));
     }
 }
 
-fn write_all_held(t: &[u32], rec: &mut [u32; LENGTH])
-    ensures { Long rec.old → Becomes rec.old rec.new (run (write_held (sheet_in t.now) (record_in rec.old).known.held) (record_in rec.old) (from 0 (reg_count (sheet_in t.now)))) }
+fn write_all_held(t: &[u32], rec: &mut WalkRecord)
+    ensures { record_of rec.new ≡ run (write_held (sheet_in t.now) (record_of rec.old).known.held) (record_of rec.old) (from 0 (reg_count (sheet_in t.now))) }
 {
-    let n = count(t, Kind::REG);
-    let mut r: u32 = 0;
-    while r < n {
+    for r in 0..count(t, Kind::REG) {
         write_held(t, rec, PhysReg(r));
-        r += 1;
     }
 }
 
 // The record as block b begins, before its parameters.
-pub fn take_in(t: &[u32], rec: &mut [u32; LENGTH], states: &[u32], b: Block)
-    ensures { Long rec.old → Becomes rec.old rec.new (take_in (sheet_in t.now) (get_or (state_in states.now b.0) nothing) (record_in rec.old)) }
+pub fn take_in(t: &[u32], rec: &mut WalkRecord, states: &[u32], b: Block)
+    ensures { record_of rec.new ≡ take_in (sheet_in t.now) (get_or (state_in states.now b.0) nothing) (record_of rec.old) }
 {
     begin_empty(rec);
     if is_set(states, b) {
@@ -122,14 +109,14 @@ pub fn take_in(t: &[u32], rec: &mut [u32; LENGTH], states: &[u32], b: Block)
 }
 
 // v is not handed to a sole successor that its defining block is not smaller than.
-fn handed(rec: &[u32; LENGTH], sole: bool, b: Block, v: u32) -> u32
-    ensures { result ≡ handed_in rec.now sole b.0 v }
+fn handed(rec: &WalkRecord, sole: bool, b: Block, v: u32) -> u32
+    ensures { result ≡ handed_in (record_of rec.now) sole b.0 v }
 {
     if v == NONE {
         return NONE;
     }
     if sole {
-        if b.0 <= defined(rec, Value(v)) {
+        if b.0 <= rec.defined(Value(v)) {
             return NONE;
         }
     }
@@ -137,17 +124,15 @@ fn handed(rec: &[u32; LENGTH], sole: bool, b: Block, v: u32) -> u32
 }
 
 // The first state of block b.
-fn first_state(rec: &[u32; LENGTH], states: &mut [u32], sole: bool, b: Block)
-    ensures { (sh : Sheet) → Long rec.now → Sets states.old states.new b.0 (first_state sh (sole_in sole b.0) (record_in rec.now)) }
+#[tactic(auto, unfolding(crate::specs::States::fits))]
+fn first_state(rec: &WalkRecord, states: &mut [u32], sole: bool, b: Block)
+    ensures { (sh : Sheet) → Sets states.old states.new b.0 (first_state sh (sole_in sole b.0) (record_of rec.now)) }
 {
     if fits(states, b) {
         states[b.0 as usize] = 1;
         let at = FLAGS + b.0 as usize * KNOWN;
-        let mut i: usize = 0;
-        while i < KNOWN {
-            let v = rec[HELD + i];
-            states[at + i] = handed(rec, sole, b, v);
-            i += 1;
+        for (i, v) in rec.cells[HELD..DEFINED].iter().enumerate() {
+            states[at + i] = handed(rec, sole, b, *v);
         }
     }
 }
@@ -167,32 +152,31 @@ fn gone(went: bool, v: u32, l: u32) -> bool
 }
 
 // Takes away pairs not now known; true if some went.
-fn meet(rec: &[u32; LENGTH], states: &mut [u32], b: Block) -> bool
-    ensures { (sh : Sheet) → Long rec.now → is_set states.old b.0 ≡ true → Meets sh rec.now states.old states.new b.0 result }
+#[tactic(auto, unfolding(crate::specs::States::fits))]
+fn meet(rec: &WalkRecord, states: &mut [u32], b: Block) -> bool
+    ensures { (sh : Sheet) → is_set states.old b.0 ≡ true → Meets sh (record_of rec.now) states.old states.new b.0 result }
 {
     let mut went = false;
     if fits(states, b) {
         let at = FLAGS + b.0 as usize * KNOWN;
-        let mut i: usize = 0;
-        while i < KNOWN {
+        for (i, x) in rec.cells[HELD..DEFINED].iter().enumerate() {
             let v = states[at + i];
-            let l = both(v, rec[HELD + i]);
+            let l = both(v, *x);
             went = gone(went, v, l);
             states[at + i] = l;
-            i += 1;
         }
     }
     went
 }
 
 fn hand_to(
-    rec: &[u32; LENGTH],
+    rec: &WalkRecord,
     states: &mut [u32],
     waiting: BlockSet,
     sole: bool,
     b: Block,
 ) -> BlockSet
-    ensures { (sh : Sheet) (n a : ℕ) (h : Handed) → Long rec.now → b.0 < n → first_state sh (sole_in sole b.0) (record_in rec.now) ≡ first_state sh (succs_of sh a) (record_in rec.now) → Lies n states.old waiting.0 h → Lies n states.new result.0 (hand_to sh a (record_in rec.now) h b.0) }
+    ensures { (sh : Sheet) (n a : ℕ) (h : Handed) → b.0 < n → first_state sh (sole_in sole b.0) (record_of rec.now) ≡ first_state sh (succs_of sh a) (record_of rec.now) → Lies n states.old waiting.0 h → Lies n states.new result.0 (hand_to sh a (record_of rec.now) h b.0) }
 {
     if is_set(states, b) {
         if meet(rec, states, b) {
@@ -207,20 +191,18 @@ fn hand_to(
 // The record is handed to the successors of block b; gives back the blocks that wait.
 pub fn hand_on(
     t: &[u32],
-    rec: &[u32; LENGTH],
+    rec: &WalkRecord,
     states: &mut [u32],
     waiting: BlockSet,
     b: Block,
 ) -> BlockSet
-    ensures { Ready t.now → Long rec.now → (h : Handed) → Lies (block_count (sheet_in t.now)) states.old waiting.0 h → Lies (block_count (sheet_in t.now)) states.new result.0 (hand_on (sheet_in t.now) b.0 (record_in rec.now) h) }
+    ensures { Ready t.now → (h : Handed) → Lies (block_count (sheet_in t.now)) states.old waiting.0 h → Lies (block_count (sheet_in t.now)) states.new result.0 (hand_on (sheet_in t.now) b.0 (record_of rec.now) h) }
 {
     let bs = succs(t, b);
     let sole = bs.len() == 1;
     let mut w = waiting;
-    let mut k: usize = 0;
-    while k < bs.len() {
-        w = hand_to(rec, states, w, sole, Block(bs[k]));
-        k += 1;
+    for x in bs {
+        w = hand_to(rec, states, w, sole, Block(*x));
     }
     w
 }

@@ -1,6 +1,5 @@
 // What `Forward` and `Global` start with.
-ghost use Rattle.std.specs.Prelude.{◌≡◌, false, ℕ, ◌+◌, leb};
-ghost use Rattle.laws.specs.Lists.{any};
+ghost use Rattle.std.specs.Prelude.{◌≡◌, false, ℕ, ◌+◌};
 ghost use Rattle.bits.specs.Sets.{set_of};
 ghost use Rattle.bits.specs.declared.sets.NumberSet.{NumberSet};
 ghost use Rattle.rules.specs.Sheet.{block_count};
@@ -17,20 +16,6 @@ use graph::preds;
 use table::rows::{Kind, count};
 use table::view::is_entry;
 
-// Some predecessor is not smaller than block b.
-fn some_later(ps: &[u32], b: Block) -> bool
-    ensures { result ≡ any (λ p. leb b.0 p) ps.now }
-{
-    let mut k: usize = 0;
-    while k < ps.len() {
-        if b.0 <= ps[k] {
-            return true;
-        }
-        k += 1;
-    }
-    false
-}
-
 // Block b is an entry, or has several predecessors, one not smaller than it.
 fn begins_empty(t: &[u32], b: Block) -> bool
     ensures { Ready t.now → result ≡ begins_empty (sheet_in t.now) b.0 }
@@ -39,10 +24,7 @@ fn begins_empty(t: &[u32], b: Block) -> bool
         return true;
     }
     let ps = preds(t, b);
-    if ps.len() <= 1 {
-        return false;
-    }
-    some_later(ps, b)
+    ps.len() > 1 && ps.iter().any(|p| b.0 <= *p)
 }
 
 // Block b is set, if it begins empty.
@@ -58,11 +40,8 @@ fn empty_at(t: &[u32], states: &mut [u32], b: Block)
 pub fn forward_start(t: &[u32], states: &mut [u32])
     ensures { Ready t.now → Unset (block_count (sheet_in t.now)) states.old → (w : NumberSet) → w ≡ set_of (λ k. false) → Lies (block_count (sheet_in t.now)) states.new w (forward_start (sheet_in t.now)) }
 {
-    let n = count(t, Kind::BLOCK);
-    let mut b: u32 = 0;
-    while b < n {
+    for b in 0..count(t, Kind::BLOCK) {
         empty_at(t, states, Block(b));
-        b += 1;
     }
 }
 
@@ -82,12 +61,9 @@ fn entry_at(t: &[u32], states: &mut [u32], w: BlockSet, b: Block) -> BlockSet
 pub fn global_start(t: &[u32], states: &mut [u32]) -> BlockSet
     ensures { Ready t.now → Unset (block_count (sheet_in t.now)) states.old → Lies (block_count (sheet_in t.now)) states.new result.0 (global_start (sheet_in t.now)) }
 {
-    let n = count(t, Kind::BLOCK);
     let mut w = BlockSet::empty();
-    let mut b: u32 = 0;
-    while b < n {
+    for b in 0..count(t, Kind::BLOCK) {
         w = entry_at(t, states, w, Block(b));
-        b += 1;
     }
     w
 }

@@ -1,16 +1,11 @@
 -- For src/counts.rt and the passes that count: a count that goes up by one (`count` of rules/specs/Forward.antt). Assumes nothing.
-use mathlib.Core.Path.{◌≡◌, ◌∙◌}
 use mathlib.Core.List.{List}
 use Prim.Native.Nat.{ℕ, ◌+◌, ◌≤◌}
 use native.Mathlib.Omega.{arith}
-use lib.ListN.{length, get_or, set}
+use lib.ListN.{length, get_or}
 use lib.Seq.{set_out, get_or-set_same, get_or-set_other}
 use Rattle.laws.proofs.Cases.{by_lt, by_eq}
 use Rattle.rules.specs.Forward.{count}
-
-pub counted_up : (k : ℕ) (cs : List ℕ) {l : List ℕ} {n : ℕ} → n ≡ get_or cs k 0 → l ≡ set cs k (n + 1) → l ≡ count k cs
-unfolding count
-counted_up k cs q h = h ∙ rw q
 
 pub count_more : (k j : ℕ) (cs : List ℕ) → get_or (count k cs) j 0 ≤ get_or cs j 0 + 1
 unfolding count

@@ -5,13 +5,16 @@ use Prim.Native.Nat.{ℕ, zero, suc, max, min, ◌+◌, ◌-◌, ◌%◌, ◌≤
 use native.Mathlib.Nat.{add-zero}
 use native.Mathlib.Numerals.{add-one}
 use native.Mathlib.Omega.{arith}
-use lib.ListN.{length, get_or, take, drop, set, length-map, drop_of_length-le}
-use lib.Seq.{drop-cons, take-set-le, drop-set-add}
+use lib.ListN.{length, get_or, take, drop, set, replicate, length-map, drop_of_length-le, length-replicate}
+use lib.Seq.{paste, drop-cons, take-set-le, drop-set-add}
+use borrow.Rule.Slice.PartMut.{put_mid}
 use borrow.Author.Tests.{lt-ltb, le-ltb}
 use Rattle.laws.specs.Fold.{run}
 use Rattle.laws.specs.Lists.{from}
 use Rattle.laws.proofs.Cases.{by_lt}
-use Rattle.laws.proofs.Lists.{span_none, span_store}
+use Rattle.laws.proofs.Lists.{span_none, span_store, run_more}
+use Rattle.std.proofs.lemmas.List.Edits.{paste_none, fill_from_more}
+use Rattle.std.proofs.lemmas.Slice.{put_mid-paste}
 use Rattle.rules.specs.Rows.{first}
 use Rattle.rules.specs.Sheet.{BlockRow, total_of, field, sheet_of, sheet_by}
 use Rattle.table.specs.Layout.{cells_at, inst_index, kind_index}
@@ -48,16 +51,21 @@ module _ {rs : List (List ℕ)} (at : ℕ) (f : ℕ → ℕ) {t : List ℕ} wher
       let m : length t' ≡ length t = p.span.long in
       record { rows = indexed_store p.rows (at + n) v (omega arith) h; span = span_store at f t n t' v p.span e (omega (arith, p.rows.held.apart)) }
 
--- ---- v at each place up to `to`: one place of `stretch`, and none left
+-- ---- v at each place up to `to`: the part of t filled with v, and none
 
-module _ (v to x : ℕ) (t : List ℕ) where
-  pub stretch_turn : x < to → run (λ l y. set l y v) (set t x v) (from (x + 1) (to - (x + 1))) ≡ run (λ l y. set l y v) t (from x (to - x))
+module _ (v at : ℕ) (t : List ℕ) where
+  stretch_paste : (k : ℕ) → at + k ≤ length t → run (λ l y. set l y v) t (from at k) ≡ paste t at (replicate k v) k
   unfolding run from
-  stretch_turn h = let e : to - x ≡ suc (to - (x + 1)) = omega arith in rw (e, add-one x) refl
+  stretch_paste zero h = paste_none t at []
+  stretch_paste (suc k) h =
+      run_more (λ l y. set l y v) t at k ∙ ap (λ l. set l (at + k) v) (stretch_paste k (omega arith)) ∙ fill_from_more t at k v (omega arith) ∙ rw add-one
 
-  pub stretch_end : to ≤ x → run (λ l y. set l y v) t (from x (to - x)) ≡ t
+  pub stretch_all : (k : ℕ) (ys : List ℕ) → at + k ≤ length t → ys ≡ replicate k v → put_mid at k t ys ≡ run (λ l y. set l y v) t (from at k)
+  stretch_all k ys h e = put_mid-paste at k t ys (replicate k v) k e refl (sym (length-replicate k v)) ∙ sym (stretch_paste k h)
+
+  pub stretch_none : (to : ℕ) → to ≤ at → t ≡ run (λ l y. set l y v) t (from at (to - at))
   unfolding run from
-  stretch_end h = let e : to - x ≡ 0 = omega arith in rw e refl
+  stretch_none to h = let e : to - at ≡ 0 = omega arith in rw e
 
 -- v is stored at m places more
 pub filled_stretch : {rs : List (List ℕ)} (at : ℕ) (f : ℕ → ℕ) {t₀ : List ℕ} (v : ℕ) → kind_index + 14 ≤ at → (m x : ℕ) {t : List ℕ} → Filled rs at f x t₀ t → ((y : ℕ) → x ≤ y → y < x + m → v ≡ f y)

@@ -10,6 +10,7 @@ use native.Mathlib.Omega.{arith}
 use lib.ListN.{length, get_or, drop, drop_of_length-le}
 use lib.Seq.{drop-cons}
 use Rattle.laws.specs.Lists.{all, any, keep, from}
+use Rattle.std.proofs.lemmas.List.Folds.{list_all-map}
 use Rattle.laws.proofs.Cases.{by_bool}
 pub use Rattle.laws.proofs.Cases.{and_left, and_right, and_both, never}
 
@@ -17,18 +18,15 @@ pub use Rattle.laws.proofs.Cases.{and_left, and_right, and_both, never}
 
 module _ {A : Type 0} (f : A → Bool) (d : A) where
   pub all_at : (l : List A) → all f l ≡ true → (j : ℕ) → j < length l → f (get_or l j d) ≡ true
-  unfolding all
   all_at [] e j h = absurd (omega arith)
   all_at (x ∷ l) e zero h = and_left (f x) (all f l) e
   all_at (x ∷ l) e (suc j) h = all_at l (and_right (f x) (all f l) e) j (omega arith)
 
   pub all_each : (l : List A) → ((j : ℕ) → j < length l → f (get_or l j d) ≡ true) → all f l ≡ true
-  unfolding all
   all_each [] h = refl
   all_each (x ∷ l) h = and_both (f x) (all f l) (h 0 (omega arith)) (all_each l (λ j u. h (suc j) (omega arith)))
 
   pub any_hit : (l : List A) (j : ℕ) → j < length l → f (get_or l j d) ≡ true → any f l ≡ true
-  unfolding any
   any_hit [] j h e = absurd (omega arith)
   any_hit (x ∷ l) zero h e = rw e
   any_hit (x ∷ l) (suc j) h e = by_bool (f x) (λ p. rw p) (λ p. rw p (any_hit l j (omega arith) e))
@@ -36,7 +34,6 @@ module _ {A : Type 0} (f : A → Bool) (d : A) where
 -- two tests that agree
 module _ {A : Type 0} (f g : A → Bool) where
   pub all_same : (l : List A) → ((x : A) → f x ≡ g x) → all f l ≡ all g l
-  unfolding all
   all_same [] h = refl
   all_same (x ∷ l) h = rw (h x, all_same l h)
 
@@ -47,12 +44,9 @@ module _ {A : Type 0} (f g : A → Bool) where
 
 module _ {A B : Type 0} (g : A → B) (f : B → Bool) where
   pub all_map : (l : List A) → all f (map g l) ≡ all (λ x. f (g x)) l
-  unfolding all
-  all_map [] = refl
-  all_map (x ∷ l) = rw (all_map l)
+  all_map l = list_all-map f g l
 
   pub any_map : (l : List A) → any f (map g l) ≡ any (λ x. f (g x)) l
-  unfolding any
   any_map [] = refl
   any_map (x ∷ l) = rw (any_map l)
 
@@ -69,55 +63,49 @@ module _ (f : ℕ → Bool) (i n : ℕ) where
 
   -- it goes on while f is true
   pub all_false : i < n → f i ≡ false → all f (from i (n - i)) ≡ false
-  unfolding all from
+  unfolding from
   all_false h e = rw (step h, e)
 
   pub all_next : i < n → f i ≡ true → all f (from (i + 1) (n - (i + 1))) ≡ all f (from i (n - i))
-  unfolding all from
+  unfolding from
   all_next h e = rw (step h, e, add-one)
 
   pub all_end : n ≤ i → all f (from i (n - i)) ≡ true
-  unfolding all from
+  unfolding from
   all_end h = rw (sub-eq-zero_of_le h)
 
   -- it goes on while f is false
   pub any_true : i < n → f i ≡ true → any f (from i (n - i)) ≡ true
-  unfolding any from
+  unfolding from
   any_true h e = rw (step h, e)
 
   pub any_next : i < n → f i ≡ false → any f (from (i + 1) (n - (i + 1))) ≡ any f (from i (n - i))
-  unfolding any from
+  unfolding from
   any_next h e = rw (step h, e, add-one)
 
   pub any_end : n ≤ i → any f (from i (n - i)) ≡ false
-  unfolding any from
+  unfolding from
   any_end h = rw (sub-eq-zero_of_le h)
 
 -- ---- the same over the members of a list
 
 module _ {A : Type 0} (f : A → Bool) (d : A) (l : List A) (i : ℕ) where
   pub all_false_in : i < length l → f (get_or l i d) ≡ false → all f (drop i l) ≡ false
-  unfolding all
   all_false_in h e = rw (drop-cons l i d, e)
 
   pub all_next_in : i < length l → f (get_or l i d) ≡ true → all f (drop (i + 1) l) ≡ all f (drop i l)
-  unfolding all
   all_next_in h e = rw (drop-cons l i d, e, add-one)
 
   pub all_end_in : length l ≤ i → all f (drop i l) ≡ true
-  unfolding all
   all_end_in h = rw (drop_of_length-le l h)
 
   pub any_true_in : i < length l → f (get_or l i d) ≡ true → any f (drop i l) ≡ true
-  unfolding any
   any_true_in h e = rw (drop-cons l i d, e)
 
   pub any_next_in : i < length l → f (get_or l i d) ≡ false → any f (drop (i + 1) l) ≡ any f (drop i l)
-  unfolding any
   any_next_in h e = rw (drop-cons l i d, e, add-one)
 
   pub any_end_in : length l ≤ i → any f (drop i l) ≡ false
-  unfolding any
   any_end_in h = rw (drop_of_length-le l h)
 
 -- ---- a list by the numbers of its members

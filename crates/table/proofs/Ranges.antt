@@ -19,22 +19,6 @@ use Rattle.table.specs.Index.{range_in, before, Part, NeverFalls, Rises}
 use Rattle.table.specs.declared.index.Range.{Range}
 use Rattle.table.proofs.Sheets.{rows_at_lem, rows_long}
 
-module _ (t : List ℕ) (at most x : ℕ) where
-  pub range_hit : (f u : ℕ) → x < most → f ≡ get_or t (at + x) 0 → u ≡ get_or t (at + x + 1) 0 → record { from = f; to = u } ≡ range_in t at most x
-  unfolding range_in
-  range_hit f u h p q = rw (p, q, lt-ltb x most h)
-
-  pub range_miss : most ≤ x → record { from = 0; to = 0 } ≡ range_in t at most x
-  unfolding range_in
-  range_miss h = rw (le-ltb x most h)
-
-module _ (t : List ℕ) (k f u : ℕ) where
-  pub list_hit : (row l : List ℕ) → f < u → row ≡ kind_row t k f → l ≡ drop 2 row → l ≡ cond (ltb f u) (drop 2 (kind_row t k f)) []
-  list_hit row l h e p = rw (lt-ltb f u h, ← e, p)
-
-  pub list_miss : u ≤ f → [] ≡ cond (ltb f u) (drop 2 (kind_row t k f)) []
-  list_miss h = rw (le-ltb f u h)
-
 -- ---- rows by their first fields
 
 pub before_low : (x : ℕ) (rows : List (List ℕ)) → ((j : ℕ) → j < length rows → x ≤ first (get_or rows j [])) → before x rows ≡ 0

@@ -1,12 +1,11 @@
 -- For src/edits.rt and specs/Edits.antt, edits and places in cells: an edit that is stored is read back, and the others stay. Assumes nothing.
---     edit_move, edit_remat, edit_espill, edit_ereload, edit_none     an edit by the word of its kind
---     small_reg, small_slot, stored, ..       the cells of a place and of an edit, where its numbers are below 100000
+--     edit_none       no edit, by the words that the kind is not
 --     read-back       the edit of the cells of an edit is the edit
 --     edits_length, edits_at_lem, edits_with      the first n edits of cells
 --     places_length, places_at                the first n places
 --     cells_same, cells_other, cells_with     cells that are an edit row's stay so when an edit is stored
 --     sheet_edit_is   row n of the sheet's edits
-use mathlib.Core.Path.{◌≡◌, refl, sym, ◌∙◌, subst}
+use mathlib.Core.Path.{◌≡◌, refl, sym, ◌∙◌}
 use mathlib.Core.Bool.{true}
 use mathlib.Core.List.{List, [], ◌∷◌}
 use Prim.Native.Nat.{ℕ, ◌+◌, ◌-◌, ◌*◌, ◌<◌, ◌≤◌}
@@ -15,16 +14,12 @@ use lib.ListN.{length, get_or, set, length-set}
 use lib.Seq.{get_or-set_same, get_or-set_other, ext_get_or}
 use borrow.Author.Tests.{lt-ltb, le-ltb, ne_eqb}
 use Rattle.laws.proofs.Cases.{by_eq}
-use Rattle.entity.specs.declared.numbers.PhysReg.{PhysReg}
-use Rattle.entity.specs.declared.numbers.SpillSlot.{SpillSlot}
-use Rattle.entity.specs.declared.numbers.Value.{Value}
 use Rattle.entity.specs.declared.forms.Place.{Place}
 use Rattle.entity.specs.declared.forms.Place.TheVariants.{Reg, Slot}
 use Rattle.entity.specs.declared.forms.Edit.{Edit}
 use Rattle.entity.specs.declared.forms.Edit.TheVariants.{Move, Remat, Espill, Ereload, Misplaced, Nothing}
-use Rattle.rules.specs.Words.{ereload_word, espill_word, move_word, none_word, remat_word}
-use Rattle.rules.proofs.Words.{dash_word}
-use Rattle.rules.specs.Cells.{word, find, words, number_limit, reg_mark, slot_mark}
+use Rattle.rules.specs.Words.{ereload_word, espill_word, move_word, remat_word}
+use Rattle.rules.specs.Cells.{word, find, words, reg_mark, slot_mark}
 use Rattle.rules.specs.Sheet.{EditRow, place_of, espill_of, ereload_of, edit_of}
 use Rattle.rules.specs.Accept.{placed}
 use Rattle.rules.specs.Answer.{place_cell, edit_cells}
@@ -34,73 +29,11 @@ use Rattle.table.specs.Sheet.{sheet_in}
 use Rattle.table.specs.Written.{four_in, SmallValue, EditCells}
 use Rattle.table.proofs.Sheets.{members_long, members_at, edits_are, part_of}
 
--- ---- an edit by the word of its kind
-
-pub edit_move : (k t p v : ℕ) {a b : Place} → k ≡ move_word → a ≡ place_of t → b ≡ place_of p → Move a b (record { 0 = v }) ≡ edit_of k t p v
-unfolding edit_of word find words
-edit_move k t p v e x y = rw (e, x, y)
-
-pub edit_remat : (k t p v : ℕ) {a : Place} → k ≡ remat_word → a ≡ place_of t → Remat a (record { 0 = v }) ≡ edit_of k t p v
-unfolding edit_of word find words
-edit_remat k t p v e x = rw (e, x)
-
-pub edit_espill : (k t p v : ℕ) {e : Edit} {a b : Place} → k ≡ espill_word → a ≡ place_of t → b ≡ place_of p → e ≡ espill_of a b → e ≡ edit_of k t p v
-unfolding edit_of word find words
-edit_espill k t p v q x y h = rw (q, ← x, ← y) h
-
-pub edit_ereload : (k t p v : ℕ) {e : Edit} {a b : Place} → k ≡ ereload_word → a ≡ place_of t → b ≡ place_of p → e ≡ ereload_of a b → e ≡ edit_of k t p v
-unfolding edit_of word find words
-edit_ereload k t p v q x y h = rw (q, ← x, ← y) h
+-- ---- no edit
 
 pub edit_none : (k t p v : ℕ) → (k ≡ move_word → ⊥) → (k ≡ remat_word → ⊥) → (k ≡ espill_word → ⊥) → (k ≡ ereload_word → ⊥) → Nothing ≡ edit_of k t p v
 unfolding edit_of word find words
 edit_none k t p v a b c d = rw (ne_eqb k move_word a, ne_eqb k remat_word b, ne_eqb k espill_word c, ne_eqb k ereload_word d)
-
--- ---- cells of a place, of an edit
-
-pub small_reg : {p : Place} {r : PhysReg} {c : ℕ} → p ≡ Reg r → (r.0 < number_limit → c ≡ reg_mark + r.0) → SmallPlace p → c ≡ place_cell p
-unfolding place_cell
-small_reg {c = c} q h = subst (λ (x : Place). SmallPlace x → c ≡ place_cell x) (sym q) h
-
-pub small_slot : {p : Place} {s : SpillSlot} {c : ℕ} → p ≡ Slot s → (s.0 < number_limit → c ≡ slot_mark + s.0) → SmallPlace p → c ≡ place_cell p
-unfolding place_cell
-small_slot {c = c} q h = subst (λ (x : Place). SmallPlace x → c ≡ place_cell x) (sym q) h
-
-module _ (cells : List ℕ) (n : ℕ) where
-  abbrev stores : ℕ → ℕ → ℕ → ℕ → List ℕ
-  stores k t p v = set (set (set (set cells (n * edit_width) k) (n * edit_width + 1) t) (n * edit_width + 2) p) (n * edit_width + 3) v
-
-  pub stored_move : {l : List ℕ} {e : Edit} {to p : Place} {v : Value} {a b : ℕ} → e ≡ Move to p v → (SmallPlace to → a ≡ place_cell to) → (SmallPlace p → b ≡ place_cell p)
-      → l ≡ stores move_word a b v.0 → SmallEdit e → l ≡ with_edit cells n e
-  unfolding with_edit edit_cells word find words
-  stored_move {l} q x y h = subst (λ (e : Edit). SmallEdit e → l ≡ with_edit cells n e) (sym q) (λ s. h ∙ rw (x s.0, y s.1))
-
-  pub stored_remat : {l : List ℕ} {e : Edit} {to : Place} {v : Value} {a : ℕ} → e ≡ Remat to v → (SmallPlace to → a ≡ place_cell to)
-      → l ≡ stores remat_word a dash_word v.0 → SmallEdit e → l ≡ with_edit cells n e
-  unfolding with_edit edit_cells word find words
-  stored_remat {l} q x h = subst (λ (e : Edit). SmallEdit e → l ≡ with_edit cells n e) (sym q) (λ s. h ∙ rw (x s))
-
-  pub stored_espill : {l : List ℕ} (d : SpillSlot) (r : PhysReg) {a b : ℕ} → (d.0 < number_limit → a ≡ slot_mark + d.0) → (r.0 < number_limit → b ≡ reg_mark + r.0)
-      → l ≡ stores espill_word a b dash_word → SmallEdit (Espill d r) → l ≡ with_edit cells n (Espill d r)
-  unfolding with_edit edit_cells place_cell word find words
-  stored_espill d r x y h s = h ∙ rw (x s.0, y s.1)
-
-  pub stored_ereload : {l : List ℕ} (r : PhysReg) (d : SpillSlot) {a b : ℕ} → (r.0 < number_limit → a ≡ reg_mark + r.0) → (d.0 < number_limit → b ≡ slot_mark + d.0)
-      → l ≡ stores ereload_word a b dash_word → SmallEdit (Ereload r d) → l ≡ with_edit cells n (Ereload r d)
-  unfolding with_edit edit_cells place_cell word find words
-  stored_ereload r d x y h s = h ∙ rw (x s.0, y s.1)
-
-  -- stored by a function of its own
-  pub stored_by : {l : List ℕ} {e e' : Edit} → e ≡ e' → (SmallEdit e' → l ≡ with_edit cells n e') → SmallEdit e → l ≡ with_edit cells n e
-  stored_by {l} q h = subst (λ (e : Edit). SmallEdit e → l ≡ with_edit cells n e) (sym q) h
-
-  pub stored_misplaced : {l : List ℕ} {e : Edit} {to p : Place} → e ≡ Misplaced to p → l ≡ stores none_word dash_word dash_word dash_word → SmallEdit e → l ≡ with_edit cells n e
-  unfolding with_edit edit_cells word find words
-  stored_misplaced {l} q h = subst (λ (e : Edit). SmallEdit e → l ≡ with_edit cells n e) (sym q) (λ s. h)
-
-  pub stored_none : {l : List ℕ} {e : Edit} → e ≡ Nothing → l ≡ stores none_word dash_word dash_word dash_word → SmallEdit e → l ≡ with_edit cells n e
-  unfolding with_edit edit_cells word find words
-  stored_none {l} q h = subst (λ (e : Edit). SmallEdit e → l ≡ with_edit cells n e) (sym q) (λ s. h)
 
 -- ---- read back
 

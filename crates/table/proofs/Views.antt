@@ -11,8 +11,7 @@ use Rattle.rules.specs.Sheet.{field, flag_of, maybe, place_of, constraint_of, ki
 use Rattle.table.specs.Rows.{count_in, kind_row}
 use Rattle.table.specs.Sheet.{sheet_in}
 use Rattle.table.specs.View.{group_row, param_row, op_row, edit_row, slot_found, block_found, param_of, operand_of}
-use Rattle.table.specs.declared.view.FoundSlot.TheVariants as FoundSlot
-use Rattle.entity.specs.declared.sets.FoundBlock.TheVariants as FoundBlock
+use Rattle.std.specs.Prelude.{Some, None}
 use Rattle.entity.specs.declared.forms.Place.{Place}
 use Rattle.entity.specs.declared.forms.Constraint.{Constraint}
 use Rattle.entity.specs.declared.forms.OperandKind.{OperandKind}
@@ -54,14 +53,14 @@ module _ (t : List ℕ) (n : ℕ) where
 
   -- home slots and idoms: none past the end, and where the cell is a dash
   module _ {m : ℕ} where
-    pub home_past : m ≡ count_in t 4 → m ≤ n → FoundSlot.Nothing ≡ slot_found (home_of (sheet_in t) n)
+    pub home_past : m ≡ count_in t 4 → m ≤ n → None ≡ slot_found (home_of (sheet_in t) n)
     unfolding slot_found
     home_past e h = rw (past_of (values_are t) n none (rw e at h))
 
     pub home_is : m ≡ count_in t 4 → n < m → slot_found (maybe (field 2 (kind_row t 4 n))) ≡ slot_found (home_of (sheet_in t) n)
     home_is e h = ap slot_found (sym (within_of (values_are t) n none (rw e at h)))
 
-    pub idom_past : m ≡ count_in t 6 → m ≤ n → FoundBlock.Nothing ≡ block_found (block_row (sheet_in t) n).idom
+    pub idom_past : m ≡ count_in t 6 → m ≤ n → None ≡ block_found (block_row (sheet_in t) n).idom
     unfolding block_found
     idom_past e h = rw (past_of (blocks_are t) n _ (rw e at h))
 
@@ -80,18 +79,18 @@ module _ (t : List ℕ) (n : ℕ) where
     operand_is = rw (pk, pq, pp, pa, pw, pv, px, pc, e) (sym (part_of (ops_are t) operand_of n _ refl))
 
 -- a cell that may be a dash
-pub slot_dash : (c : ℕ) → c ≡ dash_word → FoundSlot.Nothing ≡ slot_found (maybe c)
+pub slot_dash : (c : ℕ) → c ≡ dash_word → None ≡ slot_found (maybe c)
 unfolding slot_found maybe word words find
 slot_dash c e = rw e
 
-pub slot_some : (c : ℕ) → (c ≡ dash_word → ⊥) → FoundSlot.At (record { 0 = c }) ≡ slot_found (maybe c)
+pub slot_some : (c : ℕ) → (c ≡ dash_word → ⊥) → Some (record { 0 = c }) ≡ slot_found (maybe c)
 unfolding slot_found maybe word words find
 slot_some c e = rw (ne_eqb c dash_word e)
 
-pub block_dash : (c : ℕ) → c ≡ dash_word → FoundBlock.Nothing ≡ block_found (maybe c)
+pub block_dash : (c : ℕ) → c ≡ dash_word → None ≡ block_found (maybe c)
 unfolding block_found maybe word words find
 block_dash c e = rw e
 
-pub block_some : (c : ℕ) → (c ≡ dash_word → ⊥) → FoundBlock.At (record { 0 = c }) ≡ block_found (maybe c)
+pub block_some : (c : ℕ) → (c ≡ dash_word → ⊥) → Some (record { 0 = c }) ≡ block_found (maybe c)
 unfolding block_found maybe word words find
 block_some c e = rw (ne_eqb c dash_word e)

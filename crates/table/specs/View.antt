@@ -1,13 +1,14 @@
 -- What the accessors answer, by the sheet: rows past the end, and what a row says as the code's types.
-use Rattle.std.specs.Prelude.{[], ℕ, get_or}
+use Rattle.std.specs.Prelude.{[], ℕ, get_or, Some, None}
 use Rattle.std.proofs.Math.Option.{Option, none, some}
 use Rattle.entity.specs.declared.forms.Place.TheVariants.{Reg}
 use Rattle.entity.specs.declared.forms.Constraint.TheVariants.{Class}
 use Rattle.entity.specs.declared.forms.OperandKind.TheVariants.{NonAllocatable}
 use Rattle.entity.specs.declared.forms.Edit.TheVariants as Edit
-use Rattle.entity.specs.declared.sets.FoundBlock.{FoundBlock}
+use Rattle.std.specs.Prelude as Code
+use Rattle.entity.specs.declared.numbers.Block.{Block}
 use Rattle.rules.specs.Sheet.{Sheet, GroupRow, ParamRow, OpRow, EditRow}
-use Rattle.table.specs.declared.view.FoundSlot.{FoundSlot}
+use Rattle.entity.specs.declared.numbers.SpillSlot.{SpillSlot}
 use Rattle.table.specs.declared.view.Param.{Param}
 use Rattle.table.specs.declared.view.Operand.{Operand}
 
@@ -25,13 +26,13 @@ abbrev pub edit_row : Sheet → ℕ → EditRow
 edit_row sh n = get_or sh.edits n (record { at = 0; edit = Edit.Nothing })
 
 -- a number that may be absent, as the slot or block that it names
-unfoldable pub slot_found : Option ℕ → FoundSlot
-slot_found none = FoundSlot.Nothing
-slot_found (some s) = FoundSlot.At (record { 0 = s })
+unfoldable pub slot_found : Option ℕ → Code.Option SpillSlot
+slot_found none = None
+slot_found (some s) = Some (record { 0 = s })
 
-unfoldable pub block_found : Option ℕ → FoundBlock
-block_found none = FoundBlock.Nothing
-block_found (some b) = FoundBlock.At (record { 0 = b })
+unfoldable pub block_found : Option ℕ → Code.Option Block
+block_found none = None
+block_found (some b) = Some (record { 0 = b })
 
 -- a row, its numbers typed
 abbrev pub param_of : ParamRow → Param

@@ -2,9 +2,10 @@
 ghost use Rattle.std.specs.Prelude.{◌≡◌, get_or, ◌<◌};
 ghost use Rattle.rules.specs.Forward.{count};
 
-use bits::tables::{read_u32, store_u32};
+use bits::tables::{read, store};
 
 // A count's place in the count row.
+// Stays: `tally` is public and promises for every number; an enum would be a narrower type.
 #[derive(Clone, Copy)]
 pub struct Count(pub usize);
 
@@ -29,12 +30,13 @@ impl Count {
 }
 
 // The rule of count k fired once more.
+#[tactic(auto, unfolding(rules::specs::Forward::count))]
 pub fn tally(counts: &mut [u32], k: Count)
     ensures { get_or counts.old k.0 0 < 4294967295 → counts.new ≡ count k.0 counts.old }
 {
     let at = k.0;
-    let n = read_u32(counts, at);
+    let n = read(counts, at, 0);
     if n < 4294967295 {
-        store_u32(counts, at, n + 1);
+        store(counts, at, n + 1);
     }
 }

@@ -1,7 +1,7 @@
 // The edits as four cells each, kind, to, from and value: read as enums, and written back.
 ghost use Rattle.std.specs.Prelude.{◌≡◌, get_or, set, ◌+◌, ◌*◌, ◌<◌};
 ghost use Rattle.rules.specs.Cells.{mark_end, number_limit};
-ghost use Rattle.rules.specs.Answer.{place_cell};
+ghost use Rattle.rules.specs.Answer.{place_cell, edit_cells};
 ghost use Rattle.rules.specs.Sheet.{espill_of, ereload_of, edit_of};
 ghost use Rattle.table.specs.Layout.{edit_width};
 ghost use Rattle.table.specs.Rows.{kind_row};
@@ -9,38 +9,36 @@ ghost use Rattle.table.specs.Edits.{edit_in, with_edit, edit_at_row, SmallPlace,
 
 use crate::rows::{Kind, row_of};
 use crate::view::place_of;
-use bits::tables::{read_u32, store_u32};
+use bits::tables::{read, store};
 use entity::cells::{Mark, Number, Word};
 use entity::forms::{Edit, Place};
 use entity::numbers::{EditRow, PhysReg, SpillSlot, Value};
 
-// The cells of an edit.
+// How many cells an edit has.
 pub const WIDTH: usize = 4;
 
+#[tactic(auto, unfolding(rules::specs::Sheet::espill_of))]
+// Stays: the two differ in which side is the slot, as the edits' types do; one function would match both ways.
 fn espill_of(to: Place, from: Place) -> Edit
     ensures { result ≡ espill_of to from }
 {
-    match to {
-        Place::Slot(s) => match from {
-            Place::Reg(r) => Edit::Espill { to: s, from: r },
-            Place::Slot(_) => Edit::Misplaced { to, from },
-        },
-        Place::Reg(_) => Edit::Misplaced { to, from },
+    match (to, from) {
+        (Place::Slot(s), Place::Reg(r)) => Edit::Espill { to: s, from: r },
+        _ => Edit::Misplaced { to, from },
     }
 }
 
+#[tactic(auto, unfolding(rules::specs::Sheet::ereload_of))]
 fn ereload_of(to: Place, from: Place) -> Edit
     ensures { result ≡ ereload_of to from }
 {
-    match to {
-        Place::Reg(r) => match from {
-            Place::Slot(s) => Edit::Ereload { to: r, from: s },
-            Place::Reg(_) => Edit::Misplaced { to, from },
-        },
-        Place::Slot(_) => Edit::Misplaced { to, from },
+    match (to, from) {
+        (Place::Reg(r), Place::Slot(s)) => Edit::Ereload { to: r, from: s },
+        _ => Edit::Misplaced { to, from },
     }
 }
 
+#[tactic(auto, unfolding(rules::specs::Sheet::edit_of, rules::specs::Cells::word, rules::specs::Cells::words, rules::specs::Cells::find))]
 fn edit_of(k: u32, to: u32, from: u32, value: u32) -> Edit
     ensures { result ≡ edit_of k to from value }
 {
@@ -60,6 +58,7 @@ fn edit_of(k: u32, to: u32, from: u32, value: u32) -> Edit
     }
 }
 
+#[tactic(auto, unfolding(rules::specs::Answer::place_cell))]
 pub fn place_cell(p: Place) -> u32
     ensures { SmallPlace p → result ≡ place_cell p }
 {
@@ -77,99 +76,63 @@ fn cell(mark: u32, n: u32) -> u32
     mark + n % Number::LIMIT
 }
 
+#[tactic(auto, unfolding(crate::specs::Edits::edit_in))]
 pub fn read_edit(edits: &[u32], n: EditRow) -> Edit
     ensures { result ≡ edit_in edits.now n.0 }
 {
     let at = n.0 as usize * WIDTH;
     edit_of(
-        read_u32(edits, at),
-        read_u32(edits, at + 1),
-        read_u32(edits, at + 2),
-        read_u32(edits, at + 3),
+        read(edits, at, 0),
+        read(edits, at + 1, 0),
+        read(edits, at + 2, 0),
+        read(edits, at + 3, 0),
     )
 }
 
-fn store_cells(edits: &mut [u32], n: EditRow, kind: u32, to: u32, from: u32, value: u32)
-    ensures { edits.new ≡ set (set (set (set edits.old (n.0 * edit_width) kind) (n.0 * edit_width + 1) to) (n.0 * edit_width + 2) from) (n.0 * edit_width + 3) value }
+// The cells of an edit.
+fn cells_of(e: Edit) -> [u32; WIDTH]
+    ensures { SmallEdit e → result ≡ edit_cells e }
 {
-    let at = n.0 as usize * WIDTH;
-    store_u32(edits, at, kind);
-    store_u32(edits, at + 1, to);
-    store_u32(edits, at + 2, from);
-    store_u32(edits, at + 3, value);
-}
-
-fn store_espill(edits: &mut [u32], n: EditRow, to: SpillSlot, from: PhysReg)
-    ensures { SmallEdit (Edit.Espill to from) → edits.new ≡ with_edit edits.old n.0 (Edit.Espill to from) }
-{
-    store_cells(
-        edits,
-        n,
-        Word::ESPILL,
-        cell(Mark::SLOT, to.0),
-        cell(Mark::REG, from.0),
-        Word::DASH,
-    );
-}
-
-fn store_ereload(edits: &mut [u32], n: EditRow, to: PhysReg, from: SpillSlot)
-    ensures { SmallEdit (Edit.Ereload to from) → edits.new ≡ with_edit edits.old n.0 (Edit.Ereload to from) }
-{
-    store_cells(
-        edits,
-        n,
-        Word::ERELOAD,
-        cell(Mark::REG, to.0),
-        cell(Mark::SLOT, from.0),
-        Word::DASH,
-    );
+    match e {
+        Edit::Move { to, from, value } => [Word::MOVE, place_cell(to), place_cell(from), value.0],
+        Edit::Remat { to, value } => [Word::REMAT, place_cell(to), Word::DASH, value.0],
+        Edit::Espill { to, from } => [
+            Word::ESPILL,
+            place_cell(Place::Slot(to)),
+            place_cell(Place::Reg(from)),
+            Word::DASH,
+        ],
+        Edit::Ereload { to, from } => [
+            Word::ERELOAD,
+            place_cell(Place::Reg(to)),
+            place_cell(Place::Slot(from)),
+            Word::DASH,
+        ],
+        Edit::Misplaced { .. } | Edit::Nothing => [Word::NONE, Word::DASH, Word::DASH, Word::DASH],
+    }
 }
 
 pub fn store_edit(edits: &mut [u32], n: EditRow, e: Edit)
     ensures { SmallEdit e → edits.new ≡ with_edit edits.old n.0 e }
 {
-    match e {
-        Edit::Move { to, from, value } => {
-            store_cells(
-                edits,
-                n,
-                Word::MOVE,
-                place_cell(to),
-                place_cell(from),
-                value.0,
-            )
-        }
-        Edit::Remat { to, value } => store_cells(
-            edits,
-            n,
-            Word::REMAT,
-            place_cell(to),
-            Word::DASH,
-            value.0,
-        ),
-        Edit::Espill { to, from } => store_espill(edits, n, to, from),
-        Edit::Ereload { to, from } => store_ereload(edits, n, to, from),
-        Edit::Misplaced { to: _, from: _ } => store_cells(
-            edits,
-            n,
-            Word::NONE,
-            Word::DASH,
-            Word::DASH,
-            Word::DASH,
-        ),
-        Edit::Nothing => store_cells(edits, n, Word::NONE, Word::DASH, Word::DASH, Word::DASH),
-    }
+    let at = n.0 as usize * WIDTH;
+    let [kind, to, from, value] = cells_of(e);
+    store(edits, at, kind);
+    store(edits, at + 1, to);
+    store(edits, at + 2, from);
+    store(edits, at + 3, value);
 }
 
 // Row n of the edits as it stands in the sheet.
+#[tactic(auto, unfolding(crate::specs::Edits::edit_at_row))]
 pub fn sheet_edit(t: &[u32], n: EditRow) -> Edit
     ensures { result ≡ edit_at_row t.now n.0 }
 {
     let row = row_of(t, Kind::EDIT, n.0);
     edit_of(
-        read_u32(row, 2),
-        read_u32(row, 3),
-        read_u32(row, 4),
-        read_u32(row, 5),
+        read(row, 2, 0),
+        read(row, 3, 0),
+        read(row, 4, 0),
+        read(row, 5, 0),
     )
 }

@@ -1,6 +1,6 @@
 // The index of the rows: each block's first instruction, and where the rows of each block or instruction begin among those of their kind.
 // It is filled once rows and limits hold: `first` fields stand in order then, but for edits, which are looked up only once 6 holds.
-ghost use Rattle.std.specs.Prelude.{◌≡◌, true, List, ℕ, max, min, ◌+◌, ◌-◌, ◌<◌, ◌≤◌, length, take, set};
+ghost use Rattle.std.specs.Prelude.{◌≡◌, true, List, ℕ, ◌+◌, ◌-◌, ◌<◌, ◌≤◌, length, take, set};
 ghost use Rattle.laws.specs.Fold.{run};
 ghost use Rattle.laws.specs.Lists.{from};
 ghost use Rattle.entity.specs.Limits.{block_limit, inst_limit};
@@ -13,7 +13,7 @@ ghost use Rattle.table.specs.Index.{before, of_kind, Filled, Built, range_in};
 use crate::edits::WIDTH;
 use crate::rows::{Kind, count, row_of};
 use crate::{CELLS, INDEX, LONG, MIDDLE, SHORT};
-use bits::tables::read_u32;
+use bits::tables::read;
 use entity::numbers::{Block, Inst};
 
 // Where the parts of the index begin.
@@ -46,6 +46,7 @@ pub fn layout_agrees()
 {}
 
 // How long a table is for a sheet of so many bytes.
+#[tactic(auto, unfolding(crate::specs::Layout::table_length))]
 pub fn room(bytes: usize) -> usize
     ensures { result ≡ table_length bytes }
 {
@@ -70,23 +71,9 @@ fn stretch(t: &mut [u32], at: usize, to: usize, n: u32)
     requires { to ≤ length t.old }
     ensures { t.new ≡ run (λ l x. set l x n) t.old (from at (to - at)) }
 {
-    let mut x = at;
-    while x < to {
-        t[x] = n;
-        x += 1;
+    if at < to {
+        t[at..to].fill(n);
     }
-}
-
-fn least(a: u32, b: u32) -> u32
-    ensures { result ≡ min a b }
-{
-    if a < b { a } else { b }
-}
-
-fn greatest(a: u32, b: u32) -> u32
-    ensures { result ≡ max a b }
-{
-    if a < b { b } else { a }
 }
 
 // At each x up to `most`: how many of the kind's rows come before the first whose first field is x or more.
@@ -100,12 +87,10 @@ fn fill(t: &mut [u32], k: Kind, at: usize, most: u32)
     }
     let rows = count(t, k);
     let mut x: u32 = 0;
-    let mut n: u32 = 0;
-    while n < rows {
-        let past = least(read_u32(row_of(t, k, n), 1), most) + 1;
+    for n in 0..rows {
+        let past = read(row_of(t, k, n), 1, 0).min(most) + 1;
         stretch(t, at + x as usize, at + past as usize, n);
-        x = greatest(x, past);
-        n += 1;
+        x = x.max(past);
     }
     stretch(t, at + x as usize, at + most as usize + 1, rows);
 }
@@ -118,18 +103,16 @@ fn fill_insts(t: &mut [u32])
     if t.len() < CELLS {
         return;
     }
-    let blocks = least(count(t, Kind::BLOCK), Block::LIMIT);
-    let mut b: u32 = 0;
+    let blocks = count(t, Kind::BLOCK).min(Block::LIMIT);
     let mut sum: u32 = 0;
-    while b < blocks {
+    for b in 0..blocks {
         t[INSTS + b as usize] = sum;
-        let n = read_u32(row_of(t, Kind::BLOCK, b), 2);
+        let n = read(row_of(t, Kind::BLOCK, b), 2, 0);
         sum = (sum + n % 65536) % 65536;
-        b += 1;
     }
     stretch(
         t,
-        INSTS + b as usize,
+        INSTS + blocks as usize,
         INSTS + Block::LIMIT as usize + 1,
         sum,
     );
@@ -149,6 +132,7 @@ pub fn build(t: &mut [u32])
 }
 
 // The part of the index at `at` for x, or nothing where x is past `most`.
+#[tactic(auto, unfolding(crate::specs::Index::range_in))]
 fn between(t: &[u32], at: usize, most: u32, x: u32) -> Range
     requires { at < cells_at }
     ensures { result ≡ range_in t.now at most x }
@@ -156,14 +140,15 @@ fn between(t: &[u32], at: usize, most: u32, x: u32) -> Range
     if x < most {
         let i = at + x as usize;
         Range {
-            from: read_u32(t, i),
-            to: read_u32(t, i + 1),
+            from: read(t, i, 0),
+            to: read(t, i + 1, 0),
         }
     } else {
         Range { from: 0, to: 0 }
     }
 }
 
+// Stays: the ranges that follow are public and named in docs/PROMISES.md, each one call of `between`.
 // The instructions of a block.
 pub fn insts_of(t: &[u32], b: Block) -> Range
     ensures { result ≡ range_in t.now inst_index block_limit b.0 }

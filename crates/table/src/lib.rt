@@ -9,6 +9,7 @@ pub mod rows;
 pub mod view;
 
 // The sections of the table; where each row starts stands from its end downward.
+// Stays: document 01 asks for flat tables of numbers; their layout is named once.
 pub const INDEX: usize = 0;
 
 pub const CELLS: usize = 1920;

@@ -3,9 +3,10 @@ ghost use Rattle.std.specs.Prelude.{◌≡◌, get_or, take, drop, ◌-◌};
 ghost use Rattle.table.specs.Rows.{start_in, row_in, first_in, count_in, kind_row};
 
 use crate::INDEX;
-use bits::tables::read_u32;
+use bits::tables::read;
 
 // The thirteen kinds of row, in their order.
+// Stays: `first`, `count` and `row_of` are public and promise for every number; an enum would be a narrower type.
 #[derive(Clone, Copy)]
 pub struct Kind(pub u32);
 
@@ -41,16 +42,8 @@ impl Kind {
 pub fn part(t: &[u32], from: usize, to: usize) -> &[u32]
     ensures { result.now ≡ take (to - from) (drop from t.now) }
 {
-    if t.len() < to {
-        if from <= t.len() {
-            return &t[from..];
-        }
-        return &t[0..0];
-    }
-    if from <= to {
-        return &t[from..to];
-    }
-    &t[0..0]
+    let end = to.min(t.len());
+    &t[from.min(end)..end]
 }
 
 // Where row i starts.
@@ -60,7 +53,7 @@ pub fn start(t: &[u32], i: usize) -> u32
     if i < t.len() {
         return t[t.len() - 1 - i];
     }
-    read_u32(t, 0)
+    read(t, 0, 0)
 }
 
 // Row i of the table.
@@ -77,7 +70,7 @@ pub fn row(t: &[u32], i: u32) -> &[u32]
 pub fn first(t: &[u32], k: Kind) -> u32
     ensures { result ≡ first_in t.now k.0 }
 {
-    read_u32(t, INDEX + k.0 as usize)
+    read(t, INDEX + k.0 as usize, 0)
 }
 
 // How many rows there are of a kind.
@@ -85,9 +78,9 @@ pub fn count(t: &[u32], k: Kind) -> u32
     ensures { result ≡ count_in t.now k.0 }
 {
     let at = INDEX + k.0 as usize;
-    let from = read_u32(t, at);
-    let to = read_u32(t, at + 1);
-    if from <= to { to - from } else { 0 }
+    let from = read(t, at, 0);
+    let to = read(t, at + 1, 0);
+    to.saturating_sub(from)
 }
 
 // Row n of a kind.
@@ -95,13 +88,10 @@ pub fn row_of(t: &[u32], k: Kind, n: u32) -> &[u32]
     ensures { result.now ≡ kind_row t.now k.0 n }
 {
     let at = INDEX + k.0 as usize;
-    let from = read_u32(t, at);
-    let to = read_u32(t, at + 1);
-    if from <= to {
-        if n < to - from {
-            return row(t, from + n);
-        }
-        return &t[0..0];
+    let from = read(t, at, 0);
+    let to = read(t, at + 1, 0);
+    if n < to.saturating_sub(from) {
+        return row(t, from + n);
     }
     &t[0..0]
 }
@@ -110,5 +100,5 @@ pub fn row_of(t: &[u32], k: Kind, n: u32) -> &[u32]
 pub fn rest(r: &[u32], k: usize) -> &[u32]
     ensures { result.now ≡ drop k r.now }
 {
-    if k <= r.len() { &r[k..] } else { &r[0..0] }
+    &r[k.min(r.len())..]
 }

@@ -8,26 +8,19 @@ ghost use Rattle.table.specs.View.{group_row, param_row, op_row, edit_row, slot_
 
 use crate::index::{Range, clob_rows};
 use crate::rows::{Kind, count, rest, row_of};
-use bits::numbers::less;
-use bits::tables::read_u32;
+use bits::tables::read;
 use entity::cells::{Mark, Word};
 use entity::forms::{Constraint, OperandKind, Place};
 use entity::numbers::{
     Block, EditRow, Inst, OperandIndex, OperandRow, ParamRow, PhysReg, RegClass, RegGroup,
     SpillSlot, Value, ValueGroup,
 };
-use entity::sets::FoundBlock;
 
-#[derive(Clone, Copy)]
-pub enum FoundSlot {
-    At(SpillSlot),
-    Nothing,
-}
-
+// Stays: the accessors that follow are public and named in docs/PROMISES.md, each of its own type of number.
 pub fn slot_count(t: &[u32]) -> u32
     ensures { result ≡ (sheet_in t.now).slots }
 {
-    read_u32(row_of(t, Kind::SLOTS, 0), 1)
+    read(row_of(t, Kind::SLOTS, 0), 1, 0)
 }
 
 pub fn units(t: &[u32], r: PhysReg) -> &[u32]
@@ -39,7 +32,7 @@ pub fn units(t: &[u32], r: PhysReg) -> &[u32]
 pub fn is_memory(t: &[u32], r: PhysReg) -> bool
     ensures { result ≡ is_memory (sheet_in t.now) r.0 }
 {
-    read_u32(row_of(t, Kind::REG, r.0), 2) == 1
+    read(row_of(t, Kind::REG, r.0), 2, 0) == 1
 }
 
 pub fn members(t: &[u32], c: RegClass) -> &[u32]
@@ -51,13 +44,13 @@ pub fn members(t: &[u32], c: RegClass) -> &[u32]
 pub fn class_slots(t: &[u32], c: RegClass) -> bool
     ensures { result ≡ (class_row (sheet_in t.now) c.0).slots }
 {
-    read_u32(row_of(t, Kind::CLASS, c.0), 2) == 1
+    read(row_of(t, Kind::CLASS, c.0), 2, 0) == 1
 }
 
 pub fn group_class(t: &[u32], g: RegGroup) -> RegClass
     ensures { result.0 ≡ (group_row (sheet_in t.now) g.0).class }
 {
-    RegClass(read_u32(row_of(t, Kind::GROUP, g.0), 2))
+    RegClass(read(row_of(t, Kind::GROUP, g.0), 2, 0))
 }
 
 pub fn group_regs(t: &[u32], g: RegGroup) -> &[u32]
@@ -66,17 +59,17 @@ pub fn group_regs(t: &[u32], g: RegGroup) -> &[u32]
     rest(row_of(t, Kind::GROUP, g.0), 3)
 }
 
-pub fn home(t: &[u32], v: Value) -> FoundSlot
+pub fn home(t: &[u32], v: Value) -> Option<SpillSlot>
     ensures { result ≡ slot_found (home_of (sheet_in t.now) v.0) }
 {
     if count(t, Kind::VALUE) <= v.0 {
-        return FoundSlot::Nothing;
+        return None;
     }
-    let c = read_u32(row_of(t, Kind::VALUE, v.0), 2);
+    let c = read(row_of(t, Kind::VALUE, v.0), 2, 0);
     if c == Word::DASH {
-        return FoundSlot::Nothing;
+        return None;
     }
-    FoundSlot::At(SpillSlot(c))
+    Some(SpillSlot(c))
 }
 
 pub fn group_values(t: &[u32], g: ValueGroup) -> &[u32]
@@ -88,26 +81,26 @@ pub fn group_values(t: &[u32], g: ValueGroup) -> &[u32]
 pub fn inst_count(t: &[u32], b: Block) -> u32
     ensures { result ≡ (block_row (sheet_in t.now) b.0).instructions }
 {
-    read_u32(row_of(t, Kind::BLOCK, b.0), 2)
+    read(row_of(t, Kind::BLOCK, b.0), 2, 0)
 }
 
-pub fn idom(t: &[u32], b: Block) -> FoundBlock
+pub fn idom(t: &[u32], b: Block) -> Option<Block>
     ensures { result ≡ block_found (block_row (sheet_in t.now) b.0).idom }
 {
     if count(t, Kind::BLOCK) <= b.0 {
-        return FoundBlock::Nothing;
+        return None;
     }
-    let c = read_u32(row_of(t, Kind::BLOCK, b.0), 3);
+    let c = read(row_of(t, Kind::BLOCK, b.0), 3, 0);
     if c == Word::DASH {
-        return FoundBlock::Nothing;
+        return None;
     }
-    FoundBlock::At(Block(c))
+    Some(Block(c))
 }
 
 pub fn is_entry(t: &[u32], b: Block) -> bool
     ensures { result ≡ (block_row (sheet_in t.now) b.0).entry }
 {
-    read_u32(row_of(t, Kind::BLOCK, b.0), 4) == 1
+    read(row_of(t, Kind::BLOCK, b.0), 4, 0) == 1
 }
 
 // The list of the one row that a range has, if any.
@@ -126,28 +119,32 @@ pub fn clobbers(t: &[u32], i: Inst) -> &[u32]
     list(t, Kind::CLOB, clob_rows(t, i))
 }
 
+#[tactic(auto, unfolding(rules::specs::Sheet::place_of))]
+// Stays: this and the two that follow are public and named in docs/PROMISES.md; `From` would say the same beside them.
 pub fn place_of(c: u32) -> Place
     ensures { result ≡ place_of c }
 {
     if c < Mark::SLOT {
-        Place::reg(PhysReg(less(c, Mark::REG)))
+        Place::reg(PhysReg(c.saturating_sub(Mark::REG)))
     } else {
-        Place::slot(SpillSlot(less(c, Mark::SLOT)))
+        Place::slot(SpillSlot(c.saturating_sub(Mark::SLOT)))
     }
 }
 
+#[tactic(auto, unfolding(rules::specs::Sheet::constraint_of))]
 pub fn constraint_of(c: u32) -> Constraint
     ensures { result ≡ constraint_of c }
 {
     if c < Mark::FIXED {
-        return Constraint::Class(RegClass(less(c, Mark::CLASS)));
+        return Constraint::Class(RegClass(c.saturating_sub(Mark::CLASS)));
     }
     if c < Mark::REUSE {
-        return Constraint::Fixed(PhysReg(less(c, Mark::FIXED)));
+        return Constraint::Fixed(PhysReg(c.saturating_sub(Mark::FIXED)));
     }
-    Constraint::Reuse(OperandIndex(less(c, Mark::REUSE)))
+    Constraint::Reuse(OperandIndex(c.saturating_sub(Mark::REUSE)))
 }
 
+#[tactic(auto, unfolding(rules::specs::Sheet::kind_of, rules::specs::Cells::word, rules::specs::Cells::words, rules::specs::Cells::find))]
 pub fn kind_of(k: u32, v: u32) -> OperandKind
     ensures { result ≡ kind_of k v }
 {
@@ -174,9 +171,9 @@ pub fn param_at(t: &[u32], n: ParamRow) -> Param
 {
     let row = row_of(t, Kind::PARAM, n.0);
     Param {
-        at: Block(read_u32(row, 1)),
-        value: Value(read_u32(row, 2)),
-        place: place_of(read_u32(row, 3)),
+        at: Block(read(row, 1, 0)),
+        value: Value(read(row, 2, 0)),
+        place: place_of(read(row, 3, 0)),
     }
 }
 
@@ -193,15 +190,15 @@ pub fn operand_at(t: &[u32], n: OperandRow) -> Operand
 {
     let row = row_of(t, Kind::OP, n.0);
     Operand {
-        at: Inst(read_u32(row, 1)),
-        kind: kind_of(read_u32(row, 2), read_u32(row, 3)),
-        constraint: constraint_of(read_u32(row, 4)),
-        place: place_of(read_u32(row, 5)),
+        at: Inst(read(row, 1, 0)),
+        kind: kind_of(read(row, 2, 0), read(row, 3, 0)),
+        constraint: constraint_of(read(row, 4, 0)),
+        place: place_of(read(row, 5, 0)),
     }
 }
 
 pub fn edit_at(t: &[u32], n: EditRow) -> Inst
     ensures { result.0 ≡ (edit_row (sheet_in t.now) n.0).at }
 {
-    Inst(read_u32(row_of(t, Kind::EDIT, n.0), 1))
+    Inst(read(row_of(t, Kind::EDIT, n.0), 1, 0))
 }

@@ -1,16 +1,15 @@
-use mathlib.Core.Path.{refl}
-use Rattle.definitions.proofs.Loops.{gather_start, gather_next, gather_end, zip_first, zip_second}
-use Rattle.definitions.proofs.OwnUnits.{units_here, units_none}
+use mathlib.Core.Path.{ap}
+use Rattle.std.proofs.lemmas.Slice.Zip.{either_empty_from_Zip}
+use Rattle.definitions.specs.Definitions.{units_at}
+use Rattle.definitions.proofs.Loops.{gather_start, gather_next, gather_end, zip_all, zip_done}
+use Rattle.definitions.proofs.OwnUnits.{units_more, units_none}
 use Rattle.definitions.proofs.add_members.Goals as goal
 
-pub loop-k-init : goal.loop-k-init
-loop-k-init c = gather_start _ refl
+pub loop-r-init : goal.loop-r-init
+loop-r-init c = gather_start _ (ap (units_at _) (zip_all _ c.into_iter-r-iterator.ensures.into_iter_gives c.zip-r-items.ensures.first c.iter.ensures.rest c.zip-r-items.ensures.second.0))
 
-pub returns-then-rs-k : goal.returns-then-rs-k
-returns-then-rs-k c = gather_end (units_none _ (zip_second _ _ _ _ c.if-rs-k.true)) c.loop-k.invariant
-
-pub loop-k-preserved : goal.loop-k-preserved
-loop-k-preserved c = gather_next _ (units_here _ _ _ _ c.loop-k-test.true c.if-rs-k.false) c.loop-k.invariant c.add_units-s.ensures
+pub loop-r-preserved : goal.loop-r-preserved
+loop-r-preserved c = gather_next _ (units_more _ c.in-Some.ensures.steps) c.loop-r.invariant c.add_units-s.ensures
 
 pub returns : goal.returns
-returns c = gather_end (units_none _ (zip_first _ _ _ _ c.loop-k-test.false)) c.loop-k.invariant
+returns c = gather_end (units_none _ (zip_done _ (either_empty_from_Zip c.loop-r.r-iterator c.next.new.self _ c.in-None.is c.next.ensures.steps))) c.loop-r.invariant

@@ -1,20 +1,18 @@
-use mathlib.Core.Path.{refl}
+use Rattle.std.proofs.lemmas.Slice.Zip.{either_empty_from_Zip}
+use mathlib.Core.Path.{ap}
+use Rattle.laws.specs.Fold.{run}
 use Rattle.rules.specs.Forward.{define_all}
-use Rattle.definitions.proofs.Loops.{rest_start, rest_next, rest_end, zip_here, zip_first, zip_second}
+use Rattle.definitions.proofs.Loops.{rest_next, rest_end, zip_all, zip_more, zip_done}
 use Rattle.definitions.proofs.define_members.Goals as goal
 
-pub loop-k-init : goal.loop-k-init
+pub loop-v-init : goal.loop-v-init
 unfolding define_all
-loop-k-init c = λ _. rest_start _ _ refl
+loop-v-init c = ap (run _ _) (zip_all _ c.into_iter-v-iterator.ensures.into_iter_gives c.zip-v-items.ensures.first c.iter.ensures.rest c.zip-v-items.ensures.second.0)
 
-pub returns-then-rs-k : goal.returns-then-rs-k
+pub loop-v-preserved : goal.loop-v-preserved
 unfolding define_all
-returns-then-rs-k c = rest_end _ (zip_second _ _ _ _ c.if-rs-k.true) c.loop-k.invariant
-
-pub loop-k-preserved : goal.loop-k-preserved
-unfolding define_all
-loop-k-preserved c = rest_next _ (zip_here _ _ _ _ c.loop-k-test.true c.if-rs-k.false) c.loop-k.invariant (rw c.reg.ensures at c.define.ensures)
+loop-v-preserved c = rest_next _ (zip_more _ c.in-Some.ensures.steps) c.loop-v.invariant (rw c.reg.ensures at c.define.ensures)
 
 pub returns : goal.returns
 unfolding define_all
-returns c = rest_end _ (zip_first _ _ _ _ c.loop-k-test.false) c.loop-k.invariant
+returns c = rest_end _ (zip_done _ (either_empty_from_Zip c.loop-v.v-iterator c.next.new.self _ c.in-None.is c.next.ensures.steps)) c.loop-v.invariant

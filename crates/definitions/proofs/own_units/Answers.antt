@@ -1,11 +1,8 @@
-use mathlib.Core.Path.{refl, ap}
+use mathlib.Core.Path.{ap}
 use mathlib.Core.List.{flat_map}
 use Rattle.operands.proofs.Finding.{rows_are, row_here, rows_past}
-use Rattle.definitions.proofs.Loops.{gather_start, gather_next, gather_end, flat_here, flat_none, with_as, only_with}
+use Rattle.definitions.proofs.Loops.{gather_next, gather_end, flat_here, flat_none, with_as, only_with}
 use Rattle.definitions.proofs.own_units.Goals as goal
-
-pub loop-n-init : goal.loop-n-init
-loop-n-init c = λ _. gather_start _ refl
 
 pub loop-n-preserved : goal.loop-n-preserved
 loop-n-preserved c = λ g. gather_next _ (flat_here _ (row_here g _ _ c.op_rows-rows.ensures _ c.loop-n-test.true)) (c.loop-n.invariant g) (c.add_operand-s.ensures g)

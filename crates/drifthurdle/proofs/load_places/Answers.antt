@@ -1,14 +1,11 @@
-use Rattle.drifthurdle.proofs.Loading.{places_first, places_next, places_done}
+use mathlib.Core.Path.{◌≡◌}
+use native.Mathlib.Omega.{arith}
+use Rattle.table.specs.Rows.{count_in}
+use Rattle.drifthurdle.proofs.Loading.{places_next}
 use Rattle.drifthurdle.proofs.load_places.Goals as goal
 
-pub loop-n-init : goal.loop-n-init
-loop-n-init c = places_first _ _ _
-
 pub loop-n-preserved : goal.loop-n-preserved
-loop-n-preserved c = places_next c.loop-n.invariant c.loop-n-test.true c.count-rows.ensures c.row_of.ensures c.read_u32.ensures c.store_u32.auto.cells c.store_u32.ensures
-
-pub shape_of-places : goal.shape_of-places
-shape_of-places c = c.loop-n.invariant.long
+loop-n-preserved c = λ r. places_next _ _ (omega arith) c.row_of.ensures c.read.ensures c.store.ensures (c.loop-n.invariant r)
 
 pub returns : goal.returns
-returns c = places_done c.count-rows.ensures c.loop-n.invariant c.loop-n-test.false
+returns c = λ r. let e : c.loop-n.n ≡ count_in c.args.t.now 10 = omega arith in rw e at (c.loop-n.invariant r)

@@ -1,9 +1,8 @@
-use Prim.Native.Nat.{◌-◌}
-use Rattle.drifthurdle.proofs.Loading.{Places}
+use Prim.Native.Nat.{◌≤◌}
+use lib.ListN.{length}
+use Rattle.table.specs.Rows.{count_in}
+use Rattle.drifthurdle.specs.Loading.{PlacesLoaded}
 use Rattle.drifthurdle.proofs.load_places.Given as goal
 
 abbrev pub invariant-loop-n : goal.invariant-loop-n
-invariant-loop-n l = Places l.t l.initial.places l.rows l.places l.n
-
-abbrev pub decreases-loop-n : goal.decreases-loop-n
-decreases-loop-n l = l.rows - l.n
+invariant-loop-n l = count_in l.t 10 ≤ length l.initial.places → PlacesLoaded l.t l.places l.n

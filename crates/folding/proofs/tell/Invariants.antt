@@ -8,7 +8,4 @@ use Rattle.folding.specs.Folds.{told}
 use Rattle.folding.proofs.tell.Given as goal
 
 abbrev pub invariant-loop-n : goal.invariant-loop-n
-invariant-loop-n l = (l.initial.n ≤ l.n) × (l.n - l.initial.n ≤ l.to - l.initial.n) × (l.x ≡ told (sheet_in l.t) (map (op_row (sheet_in l.t)) (from l.initial.n (l.n - l.initial.n))))
-
-abbrev pub decreases-loop-n : goal.decreases-loop-n
-decreases-loop-n l = l.to - l.n
+invariant-loop-n l = (l.n - l.initial.n ≤ l.n-end - l.initial.n) × (l.x ≡ told (sheet_in l.t) (map (op_row (sheet_in l.t)) (from l.initial.n (l.n - l.initial.n))))

@@ -1,4 +1,3 @@
-use Prim.Native.Nat.{◌-◌}
 use Rattle.table.specs.Sheet.{sheet_in}
 use Rattle.table.specs.Index.{Ready}
 use Rattle.holders.proofs.Holding.{Filling}
@@ -6,6 +5,3 @@ use Rattle.holders.proofs.fill.Given as goal
 
 abbrev pub invariant-loop-c : goal.invariant-loop-c
 invariant-loop-c l = Ready l.t → Filling (sheet_in l.t) 0 l.initial.classes → Filling (sheet_in l.t) l.c l.classes
-
-abbrev pub decreases-loop-c : goal.decreases-loop-c
-decreases-loop-c l = l.n - l.c

@@ -1,9 +1,6 @@
-use Prim.Native.Nat.{◌≤◌, ◌-◌}
-use Rattle.marks.specs.Marks.{Lists}
+use Rattle.std.proofs.Common.{◌≡◌, ℕ, ◌+◌, ◌<◌, get_or}
+use Rattle.marks.specs.Marks.{record_in, no_record}
 use Rattle.marks.proofs.listed.Given as goal
 
 abbrev pub invariant-loop-n : goal.invariant-loop-n
-invariant-loop-n l = (l.n ≤ l.rows) × (l.rows ≤ 64) × (l.first ≤ 1024) × Lists l.edits l.list l.first l.n
-
-abbrev pub decreases-loop-n : goal.decreases-loop-n
-decreases-loop-n l = l.rows - l.n
+invariant-loop-n l = (i : ℕ) → i < l.n → get_or l.r-items i no_record ≡ record_in l.edits (l.first + i)

@@ -1,12 +1,10 @@
-use mathlib.Core.Path.{ap, ◌∙◌}
-use native.Mathlib.Omega.{arith}
-use lib.ListN.{length, length-take}
+use Rattle.std.proofs.Common.{ℕ, take, ap, ◌∙◌}
+use Rattle.std.proofs.lemmas.List.{take_min}
 use Rattle.entity.specs.Limits.{edit_limit}
 use Rattle.marks.specs.Marks.{applied}
 use Rattle.marks.proofs.mark_cells.Goals as goal
 
-pub mark_rows-requires : goal.mark_rows-requires
-mark_rows-requires c = omega (arith, ap length c.within.ensures, length-take edit_limit c.args.marks.now)
-
 pub returns : goal.returns
-returns c = c.mark_rows.ensures ∙ ap (applied _) c.within.ensures
+returns c =
+    c.mark_rows.ensures ∙ ap (λ (n : ℕ). applied c.args.edits.now (take n c.args.marks.now)) c.min.ensures
+    ∙ ap (applied c.args.edits.now) (take_min edit_limit c.args.marks.now)

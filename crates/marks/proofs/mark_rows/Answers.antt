@@ -1,28 +1,23 @@
-use mathlib.Core.Path.{◌∙◌, refl}
-use native.Mathlib.Omega.{arith}
-use Rattle.marks.proofs.Marking.{page_few, page_first, page_next, page_last}
+use Rattle.std.proofs.Common.{length, length-append, arith, rules, ap, ◌∙◌, sym}
+use Rattle.std.specs.Slice.Iter.{chunks_rest}
+use Rattle.marks.specs.Marks.{applied_at}
+use Rattle.marks.proofs.Marking.{each_first, page_next, page_rest, page_last}
 use Rattle.marks.proofs.mark_rows.Goals as goal
 
-pub loop-n-init : goal.loop-n-init
-loop-n-init c = (c.requires, omega arith, refl, page_first _ _)
+pub loop-page-init : goal.loop-page-init
+loop-page-init c = (search rules, tt, search rules, search rules, search rules, each_first applied_at _ _)
 
-pub page-requires : goal.page-requires
-page-requires c = omega (arith, c.loop-n-test.true)
-
-pub mark_page-requires : goal.mark_page-requires
-mark_page-requires c = (omega (arith, c.loop-n-test.true, c.loop-n.invariant.0), page_few c.loop-n.n c.args.marks.now c.page.ensures)
-
-pub overflow_add-n : goal.overflow_add-n
-overflow_add-n c = omega (arith, c.loop-n.invariant.1)
-
-pub loop-n-smaller : goal.loop-n-smaller
-loop-n-smaller c = omega (arith, c.loop-n.invariant.1)
-
-pub loop-n-preserved : goal.loop-n-preserved
-loop-n-preserved c = (c.loop-n.invariant.0, omega (arith, c.loop-n-test.true, c.loop-n.invariant.0), c.mark_page.auto.edits ∙ c.loop-n.invariant.2, page_next _ _ _ c.loop-n.invariant.3 c.page.ensures c.mark_page.ensures)
-
-pub shape_of-edits : goal.shape_of-edits
-shape_of-edits c = c.loop-n.invariant.2
+pub loop-page-preserved : goal.loop-page-preserved
+loop-page-preserved c =
+    let steps = c.in-Some.ensures.steps in
+    let parts = sym c.loop-page.invariant.4 ∙ steps.1.0 in (
+      search rules,
+      tt,
+      steps.0 ∙ c.loop-page.invariant.2,
+      omega (arith, c.loop-page.invariant.3, ap length steps.1.0, length-append c.in-Some.page.now (chunks_rest c.next.new.self)),
+      page_rest c.args.marks.now _ _ _ parts,
+      page_next _ _ _ _ parts _ c.loop-page.invariant.5 c.mark_page.ensures,
+    )
 
 pub returns : goal.returns
-returns c = page_last _ _ _ c.loop-n.invariant.3 c.loop-n-test.false
+returns c = page_last _ _ c.loop-page.invariant.5 (omega (arith, c.loop-page.invariant.3, c.in-None.ensures.steps.1.0))

@@ -1,11 +1,13 @@
-use mathlib.Core.Path.{◌≡◌}
-use Prim.Native.Nat.{◌≤◌, ◌-◌}
-use lib.ListN.{length}
-use Rattle.marks.specs.Marks.{each_row, applied_at}
+use Rattle.std.proofs.Common.{◌≡◌, ◌+◌, length, drop}
+use Rattle.std.specs.Slice.Iter.{chunks_rest, chunks_size}
+use Rattle.marks.specs.Marks.{page_rows, each_row, applied_at}
 use Rattle.marks.proofs.mark_rows.Given as goal
 
-abbrev pub invariant-loop-n : goal.invariant-loop-n
-invariant-loop-n l = (length l.marks ≤ 1024) × (l.n ≤ 1088) × (length l.edits ≡ length l.initial.edits) × (l.edits ≡ each_row applied_at l.initial.edits l.marks l.n)
-
-abbrev pub decreases-loop-n : goal.decreases-loop-n
-decreases-loop-n l = 2000 - l.n
+abbrev pub invariant-loop-page : goal.invariant-loop-page
+invariant-loop-page l =
+    (goal.iterator-loop-page).can_next l.page-iterator
+    × (goal.iterator-loop-page).is_finite l.page-iterator
+    × (chunks_size l.page-iterator ≡ page_rows)
+    × (l.first + length (chunks_rest l.page-iterator) ≡ length l.fn.marks)
+    × (chunks_rest l.page-iterator ≡ drop l.first l.fn.marks)
+    × (l.edits ≡ each_row applied_at l.initial.edits l.fn.marks l.first)

@@ -13,5 +13,5 @@ returns-in-Remat c = let a = c.args in
     c.in-Remat.is
     c.optimise_move-in-Remat.ensures
 
-pub returns-in_default-e : goal.returns-in_default-e
-returns-in_default-e c = let a = c.args in edit_other a.b.0 a.j.0 c.read_edit-e.ensures c.in_default.not-Move c.in_default-e.not-Remat c.effect.ensures
+pub returns-in_default : goal.returns-in_default
+returns-in_default c = let a = c.args in edit_other a.b.0 a.j.0 c.read_edit-e.ensures c.in_default.not-Move c.in_default.not-Remat c.effect.ensures

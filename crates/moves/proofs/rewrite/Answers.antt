@@ -14,5 +14,5 @@ pub returns-in-Sourced : goal.returns-in-Sourced
 returns-in-Sourced c = let a = c.args in
     rewrite_sourced a.edits.now a.counts.now a.j.0 a.a
     c.in-Sourced.is
-    c.reg-from.ensures
+    c.reg.ensures
     c.store_edit-in-Sourced.ensures c.tally-in-Sourced.ensures

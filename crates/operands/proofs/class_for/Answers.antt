@@ -1,11 +1,8 @@
-use Rattle.operands.proofs.Finding.{for_class, for_fixed, for_reuse}
+use Rattle.operands.proofs.Finding.{for_own, for_reuse}
 use Rattle.operands.proofs.class_for.Goals as goal
-
-pub returns-in-Class : goal.returns-in-Class
-returns-in-Class c = for_class _ _ _ c.in-Class.is
-
-pub returns-in-Fixed : goal.returns-in-Fixed
-returns-in-Fixed c = for_fixed _ _ _ c.in-Fixed.is
 
 pub returns-in-Reuse : goal.returns-in-Reuse
 returns-in-Reuse c = for_reuse _ _ _ _ c.in-Reuse.is c.reused_class.ensures
+
+pub returns-in_default : goal.returns-in_default
+returns-in_default c = for_own _ _ c.in_default.not-Reuse c.class_of.ensures

@@ -1,14 +1,18 @@
-use Rattle.operands.proofs.Heading.{head_start, head_found, head_next, head_none}
+use mathlib.Core.Path.{◌≡◌}
+use mathlib.Core.Bool.{true, false}
+use Rattle.std.proofs.Common.{rules}
+use borrow.Author.Tests.{tests}
+use Rattle.std.proofs.lemmas.Iterator.{first_from_Range}
+use Rattle.rules.specs.Accept.{headed_by}
+use Rattle.table.specs.Sheet.{sheet_in}
+use Rattle.table.specs.View.{group_row}
+use Rattle.operands.proofs.Heading.{headed_first}
 use Rattle.operands.proofs.group_headed.Goals as goal
 
-pub loop-g-init : goal.loop-g-init
-loop-g-init c = head_start _ _ _
-
-pub returns-then-headed_by : goal.returns-then-headed_by
-returns-then-headed_by c = head_found _ _ _ _ c.count-groups.ensures c.loop-g.invariant c.headed_by.ensures c.if-headed_by.true c.loop-g-test.true
-
-pub loop-g-preserved : goal.loop-g-preserved
-loop-g-preserved c = head_next _ _ _ _ c.count-groups.ensures c.loop-g.invariant c.headed_by.ensures c.if-headed_by.false c.loop-g-test.true
-
 pub returns : goal.returns
-returns c = λ _. head_none _ _ _ _ c.count-groups.ensures c.loop-g.invariant c.loop-g-test.false
+returns c =
+    let a = c.args in
+    headed_first a.t.now a.c.0 a.r.0 _ c.count-groups.ensures
+    (first_from_Range _ _ _ _ (λ k. headed_by a.c.0 a.r.0 (group_row (sheet_in a.t.now) k) ≡ true) (λ k. headed_by a.c.0 a.r.0 (group_row (sheet_in a.t.now) k) ≡ false)
+    c.find-found.ensures.ran (λ x q k. search (rules, tests)) (λ x q k. search (rules, tests)))
+    c.unwrap_or.ensures

@@ -1,11 +1,9 @@
-use Rattle.operands.proofs.Finding.{operand_none, operand_some, operand_back}
+use native.Mathlib.Omega.{arith}
+use Rattle.operands.proofs.Finding.{operand_none, operand_some}
 use Rattle.operands.proofs.operand.Goals as goal
 
-pub returns-then-rows : goal.returns-then-rows
-returns-then-rows c = operand_none _ _ _ _ c.op_rows-rows.ensures (operand_back _ _ _ c.if-rows.true)
-
-pub returns-then-rows-k : goal.returns-then-rows-k
-returns-then-rows-k c = operand_none _ _ _ _ c.op_rows-rows.ensures c.if-rows-k.true
+pub returns-then-saturating_sub-k : goal.returns-then-saturating_sub-k
+returns-then-saturating_sub-k c = operand_none _ _ _ _ c.op_rows-rows.ensures (omega arith)
 
 pub returns : goal.returns
-returns c = operand_some _ _ _ _ c.op_rows-rows.ensures _ c.if-rows-k.false c.operand_at.ensures
+returns c = operand_some _ _ _ _ c.op_rows-rows.ensures _ (omega arith) c.operand_at.ensures

@@ -1,5 +1,5 @@
-use Rattle.std.proofs.Common.{◌-◌}
+use Rattle.std.proofs.Common.{length}
 use Rattle.replay.proofs.replay.Given as goal
 
-abbrev pub decreases-loop-cases : goal.decreases-loop-cases
-decreases-loop-cases g l = 100000 - l.cases
+abbrev pub decreases-loop-rest : goal.decreases-loop-rest
+decreases-loop-rest g l = length l.rest

@@ -19,25 +19,25 @@ returns-then-sheet-gt-BYTES c = let a = c.args in let answer = refused a.sheet.n
 
 pub index-requires : goal.index-requires
 index-requires c =
-    let at = are_rows (cells_of c.args.sheet.now) c.in-Rows.n c.rows.ensures.value c.in-Rows.is in
+    let at = are_rows (cells_of c.args.sheet.now) c.in-Some.n c.rows.ensures.value c.in-Some.is in
     let held : Holds at.0 c.rows.new.t = c.rows.ensures.holds at.0 at.1 in
     omega (arith, held.apart)
 
-pub returns-then-sheet_ok : goal.returns-then-sheet_ok
-returns-then-sheet_ok c = let a = c.args in
-    let at = are_rows (cells_of c.args.sheet.now) c.in-Rows.n c.rows.ensures.value c.in-Rows.is in
+pub returns : goal.returns
+returns c = let a = c.args in
+    let at = are_rows (cells_of c.args.sheet.now) c.in-Some.n c.rows.ensures.value c.in-Some.is in
     let held : Holds at.0 c.rows.new.t = c.rows.ensures.holds at.0 at.1 in
     let tested : c.sheet_ok.result ≡ sheet_ok at.0 = c.sheet_ok.ensures ∙ ap sheet_ok (sheet_is held _ at.2) in
     let enough : table_length (length c.args.sheet.now) ≤ length c.args.t.now = omega (arith, c.room.ensures) in
-    let ok : sheet_ok at.0 ≡ true = sym tested ∙ c.if-sheet_ok.true in
+    let ok : sheet_ok at.0 ≡ true = sym tested ∙ c.if-not-sheet_ok.false in
     let answer = accepted a.sheet.now a.t.now c.index.new.t at.0 (rows_are a.sheet.now at.0 (omega arith) at.1 ok) enough (c.index.ensures at.0 held at.2 (sheet_rises at.0 ok)) in record { value = answer.0; indexed = answer.1 }
 
-pub returns-else-sheet_ok : goal.returns-else-sheet_ok
-returns-else-sheet_ok c = let a = c.args in
-    let at = are_rows (cells_of c.args.sheet.now) c.in-Rows.n c.rows.ensures.value c.in-Rows.is in
+pub returns-then-not-sheet_ok : goal.returns-then-not-sheet_ok
+returns-then-not-sheet_ok c = let a = c.args in
+    let at = are_rows (cells_of c.args.sheet.now) c.in-Some.n c.rows.ensures.value c.in-Some.is in
     let held : Holds at.0 c.rows.new.t = c.rows.ensures.holds at.0 at.1 in
     let tested : c.sheet_ok.result ≡ sheet_ok at.0 = c.sheet_ok.ensures ∙ ap sheet_ok (sheet_is held _ at.2) in
-    let answer = refused a.sheet.now a.t.now c.rows.new.t (rows_not a.sheet.now at.0 at.1 (sym tested ∙ c.if-sheet_ok.false)) in record { value = answer.0; indexed = answer.1 }
+    let answer = refused a.sheet.now a.t.now c.rows.new.t (rows_not a.sheet.now at.0 at.1 (sym tested ∙ c.if-not-sheet_ok.true)) in record { value = answer.0; indexed = answer.1 }
 
-pub returns-in-Broken : goal.returns-in-Broken
-returns-in-Broken c = let a = c.args in let answer = refused a.sheet.now a.t.now c.rows.new.t (rows_broken a.sheet.now (no_rows _ c.rows.ensures.value c.in-Broken.is)) in record { value = answer.0; indexed = answer.1 }
+pub returns-in_default : goal.returns-in_default
+returns-in_default c = let a = c.args in let answer = refused a.sheet.now a.t.now c.rows.new.t (rows_broken a.sheet.now (no_rows _ c.rows.ensures.value c.in_default.is)) in record { value = answer.0; indexed = answer.1 }

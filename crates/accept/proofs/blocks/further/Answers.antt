@@ -1,18 +1,18 @@
 use Rattle.accept.proofs.Reaching.{grown_hit, grown_miss, grown_end}
 use Rattle.accept.specs.Blocks.{grown}
-use native.Mathlib.Omega.{arith}
 use mathlib.Core.Path.{sym, refl, ◌∙◌}
 use Rattle.accept.proofs.blocks.further.Goals as goal
 use Rattle.accept.proofs.blocks.further.Goals.{then-contains, else-contains}
 
 pub loop-b-init : goal.loop-b-init
 unfolding grown
-loop-b-init c = (omega arith, λ g. refl)
+loop-b-init c = λ g. refl
 
 pub loop-b-preserved : goal.loop-b-preserved
-unfolding grown
-loop-b-preserved c = (omega arith, λ g. elim c.if-contains.branch [ then-contains w ↦ w.all-is ∙ grown_hit _ _ _ _ _ _ (c.loop-b.invariant.1 g) (sym c.contains.ensures ∙ w.if-contains.true) (w.succs.ensures g) w.with_all-all.ensures | else-contains w ↦ w.all-is ∙ grown_miss _ _ _ _ (c.loop-b.invariant.1 g) (sym c.contains.ensures ∙ w.if-contains.false) ])
+loop-b-preserved c = λ g. elim c.if-contains.branch [
+  | then-contains w ↦ w.all-is ∙ grown_hit _ _ _ _ _ _ (c.loop-b.invariant g) (sym c.contains.ensures ∙ w.if-contains.true) (w.succs.ensures g) w.with_all-all.ensures
+  | else-contains w ↦ w.all-is ∙ grown_miss _ _ _ _ (c.loop-b.invariant g) (sym c.contains.ensures ∙ w.if-contains.false)
+]
 
 pub returns : goal.returns
-unfolding grown
-returns c = λ g. grown_end _ _ _ _ _ c.count-blocks.ensures c.loop-b.invariant.0 c.loop-b-test.false (c.loop-b.invariant.1 g)
+returns c = λ g. c.of.ensures ∙ grown_end _ _ _ _ _ c.count-b-end.ensures c.loop-b.auto.b-end c.loop-b-test.false (c.loop-b.invariant g)

@@ -1,18 +1,12 @@
-use Rattle.accept.proofs.Lowest.{low_start, low_stop, low_go, low_done}
-use Rattle.accept.specs.Blocks.{keeps}
-use Rattle.table.specs.Sheet.{sheet_in}
-use mathlib.Core.Path.{ap}
+use Rattle.std.proofs.lemmas.Iterator.{YieldsList-from_range, YieldsList-from_map}
+use Rattle.std.proofs.lemmas.Iterator.Search.{find_from_yields_List}
+use Rattle.std.proofs.Common.{rules}
+use borrow.Author.Tests.{tests}
 use mathlib.Core.Bool.{not}
+use native.Mathlib.Nat.{sub-zero}
+use Rattle.entity.specs.declared.numbers.Block.{Block}
+use Rattle.accept.proofs.Lowest.{low_is}
 use Rattle.accept.proofs.blocks.lowest_breaking.Goals as goal
 
-pub loop-b-init : goal.loop-b-init
-loop-b-init c = λ g. low_start _ _ _ c.count-blocks.ensures
-
-pub returns-then-not-keeps : goal.returns-then-not-keeps
-returns-then-not-keeps c = low_stop (keeps (sheet_in _) _) _ _ c.loop-b.invariant c.keeps.ensures (ap not c.if-not-keeps.true) c.loop-b-test.true
-
-pub loop-b-preserved : goal.loop-b-preserved
-loop-b-preserved c = low_go (keeps (sheet_in _) _) _ _ c.loop-b.invariant c.keeps.ensures (ap not c.if-not-keeps.false) c.loop-b-test.true
-
 pub returns : goal.returns
-returns c = low_done (keeps (sheet_in _) _) _ _ c.loop-b.invariant c.loop-b-test.false
+returns g c = λ f h. low_is _ f c.count.ensures _ (find_from_yields_List (λ (b : Block). not (f b.0)) _ _ _ c.find.ensures.ran (YieldsList-from_map _ (λ (n : _). record { 0 = n }) (YieldsList-from_range 0 _ _ c.map.ensures.source (sub-zero _)) c.map.ensures.closure (λ x r q k. search rules)) (λ x b q k. search (rules, tests, h)))

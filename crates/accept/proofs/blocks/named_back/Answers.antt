@@ -1,10 +1,8 @@
-use Rattle.accept.proofs.Blockwise.{agree_stop, agree_go}
-use mathlib.Core.Path.{ap}
-use mathlib.Core.Bool.{not}
+use Rattle.accept.proofs.Blockwise.{named_stop, named_go}
 use Rattle.accept.proofs.blocks.named_back.Goals as goal
 
-pub returns-then-not-neighbour_of_each : goal.returns-then-not-neighbour_of_each
-returns-then-not-neighbour_of_each c = agree_stop _ _ _ _ c.neighbour_of_each.ensures c.succs.ensures (ap not c.if-not-neighbour_of_each.true)
+pub returns-then-neighbour_of_each : goal.returns-then-neighbour_of_each
+returns-then-neighbour_of_each c = named_go _ _ c.neighbour_of_each.ensures c.succs.ensures c.if-neighbour_of_each.true c.neighbour_of_each-then-neighbour_of_each.ensures c.preds.ensures
 
-pub returns : goal.returns
-returns c = agree_go _ _ _ _ _ _ c.neighbour_of_each.ensures c.succs.ensures (ap not c.if-not-neighbour_of_each.false) c.neighbour_of_each-2.ensures c.preds.ensures
+pub returns-else-neighbour_of_each : goal.returns-else-neighbour_of_each
+returns-else-neighbour_of_each c = named_stop _ _ c.neighbour_of_each.ensures c.succs.ensures c.if-neighbour_of_each.false

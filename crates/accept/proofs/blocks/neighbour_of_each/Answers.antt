@@ -1,16 +1,12 @@
-use Rattle.accept.proofs.Walks.{each_stop, each_go, each_done}
+use borrow.Author.Tests.{tests}
+use Rattle.std.proofs.Common.{rules}
+use Rattle.std.proofs.lemmas.Iterator.{YieldsList-from_slice}
+use Rattle.std.proofs.lemmas.Iterator.Search.{all_from_yields_List}
 use Rattle.laws.specs.Lists.{is_in}
-use mathlib.Core.Path.{refl, ◌∙◌, ap}
+use Rattle.rules.specs.Sheet.{succs_of, preds_of}
+use Rattle.graph.specs.Graph.{chosen}
+use Rattle.table.specs.Sheet.{sheet_in}
 use Rattle.accept.proofs.blocks.neighbour_of_each.Goals as goal
 
-pub loop-i-init : goal.loop-i-init
-loop-i-init c = λ g. refl
-
-pub returns-then-not-is_in : goal.returns-then-not-is_in
-returns-then-not-is_in c = each_stop _ _ _ c.loop-i.invariant (λ g. c.is_in.ensures ∙ ap (is_in _) (c.neighbours_of.ensures g)) c.if-not-is_in.true c.loop-i-test.true
-
-pub loop-i-preserved : goal.loop-i-preserved
-loop-i-preserved c = each_go _ _ _ c.loop-i.invariant (λ g. c.is_in.ensures ∙ ap (is_in _) (c.neighbours_of.ensures g)) c.if-not-is_in.false c.loop-i-test.true
-
 pub returns : goal.returns
-returns c = each_done _ _ _ c.loop-i.invariant c.loop-i-test.false
+returns c = λ g. all_from_yields_List (λ x. is_in c.args.b.0 (chosen c.args.d (succs_of (sheet_in c.args.t.now) x) (preds_of (sheet_in c.args.t.now) x))) _ _ _ c.all.ensures.ran (YieldsList-from_slice _ c.iter.ensures.rest) (λ x b q k. search (rules, tests))

@@ -1,21 +1,14 @@
-use Rattle.accept.proofs.Blockwise.{sole_start}
-use Rattle.accept.proofs.Walks.{each_stop, each_go, each_done}
-use borrow.Author.Tests.{lt-leb, le-leb}
-use mathlib.Core.List.{List}
+use borrow.Author.Tests.{tests}
 use lib.Dec.{leb}
 use lib.ListN.{length}
-use Prim.Native.Nat.{ℕ}
-use mathlib.Core.Path.{ap}
+use Rattle.std.proofs.Common.{rules}
+use Rattle.std.proofs.lemmas.Iterator.{YieldsList-from_slice}
+use Rattle.std.proofs.lemmas.Iterator.Search.{all_from_yields_List}
+use Rattle.rules.specs.Sheet.{preds_of}
+use Rattle.table.specs.Sheet.{sheet_in}
+use Rattle.accept.specs.Blocks.{sole_preds}
 use Rattle.accept.proofs.blocks.sole_preds.Goals as goal
 
-pub loop-i-init : goal.loop-i-init
-loop-i-init c = λ g. sole_start _ _
-
-pub returns-then-preds-gt1 : goal.returns-then-preds-gt1
-returns-then-preds-gt1 c = each_stop _ _ _ c.loop-i.invariant (λ g. ap (λ (l : List ℕ). leb (length l) 1) (c.preds.ensures g)) (lt-leb _ 1 c.if-preds-gt1.true) c.loop-i-test.true
-
-pub loop-i-preserved : goal.loop-i-preserved
-loop-i-preserved c = each_go _ _ _ c.loop-i.invariant (λ g. ap (λ (l : List ℕ). leb (length l) 1) (c.preds.ensures g)) (le-leb _ 1 c.if-preds-gt1.false) c.loop-i-test.true
-
 pub returns : goal.returns
-returns c = each_done _ _ _ c.loop-i.invariant c.loop-i-test.false
+unfolding sole_preds
+returns c = λ g. all_from_yields_List (λ x. leb (length (preds_of (sheet_in c.args.t.now) x)) 1) _ _ _ c.all.ensures.ran (YieldsList-from_slice _ c.iter.ensures.rest) (λ x b q k. search (rules, tests))

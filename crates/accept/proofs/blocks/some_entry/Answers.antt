@@ -1,15 +1,13 @@
-use Rattle.accept.proofs.Blockwise.{some_start}
-use Rattle.accept.proofs.Walks.{any_stop, any_go, any_done}
+use native.Mathlib.Nat.{sub-zero}
+use mathlib.Core.Path.{refl, ◌∙◌}
+use borrow.Author.Tests.{tests}
+use Rattle.std.proofs.Common.{rules}
+use Rattle.std.proofs.lemmas.Iterator.{YieldsList-from_range}
+use Rattle.std.proofs.lemmas.Iterator.Search.{any_from_yields_List}
+use Rattle.rules.specs.Accept.{is_entry}
+use Rattle.table.specs.Sheet.{sheet_in}
+use Rattle.accept.proofs.Blockwise.{some_blocks}
 use Rattle.accept.proofs.blocks.some_entry.Goals as goal
 
-pub loop-b-init : goal.loop-b-init
-loop-b-init c = λ g. some_start _ _ c.count-blocks.ensures
-
-pub returns-then-is_entry : goal.returns-then-is_entry
-returns-then-is_entry c = any_stop _ _ _ c.loop-b.invariant (λ g. c.is_entry.ensures) c.if-is_entry.true c.loop-b-test.true
-
-pub loop-b-preserved : goal.loop-b-preserved
-loop-b-preserved c = any_go _ _ _ c.loop-b.invariant (λ g. c.is_entry.ensures) c.if-is_entry.false c.loop-b-test.true
-
 pub returns : goal.returns
-returns c = any_done _ _ _ c.loop-b.invariant c.loop-b-test.false
+returns c = λ g. any_from_yields_List (is_entry (sheet_in c.args.t.now)) _ _ _ c.any.ensures.ran (YieldsList-from_range 0 _ _ refl (sub-zero _)) (λ x b q k. search (rules, tests)) ∙ some_blocks _ c.count.ensures

@@ -1,17 +1,16 @@
-use Rattle.accept.proofs.Walks.{all_stop, all_go, all_done}
-use Rattle.accept.proofs.Operandwise.{ops_start, row_held}
-use mathlib.Core.Path.{ap}
-use mathlib.Core.Bool.{not}
+use native.Mathlib.Nat.{sub-zero}
+use mathlib.Core.Path.{refl, ◌∙◌}
+use borrow.Author.Tests.{tests}
+use Rattle.std.proofs.Common.{rules}
+use Rattle.std.proofs.lemmas.Iterator.{YieldsList-from_range}
+use Rattle.std.proofs.lemmas.Iterator.Search.{all_from_yields_List}
+use Rattle.table.specs.Sheet.{sheet_in}
+use Rattle.table.specs.View.{op_row}
+use Rattle.accept.specs.Operands.{operand_holds}
+use Rattle.accept.proofs.Operandwise.{ops_all, row_held}
 use Rattle.accept.proofs.constraints.all_hold.Goals as goal
 
-pub loop-n-init : goal.loop-n-init
-loop-n-init c = λ q g. ops_start _ _ c.count-ops.ensures
-
-pub returns-then-not-operand_holds : goal.returns-then-not-operand_holds
-returns-then-not-operand_holds c = λ q. all_stop _ _ _ (c.loop-n.invariant q) (row_held _ _ _ _ c.operand_at.ensures (c.operand_holds.ensures q)) (ap not c.if-not-operand_holds.true) c.loop-n-test.true
-
-pub loop-n-preserved : goal.loop-n-preserved
-loop-n-preserved c = λ q. all_go _ _ _ (c.loop-n.invariant q) (row_held _ _ _ _ c.operand_at.ensures (c.operand_holds.ensures q)) (ap not c.if-not-operand_holds.false) c.loop-n-test.true
-
 pub returns : goal.returns
-returns c = λ q. all_done _ _ _ (c.loop-n.invariant q) c.loop-n-test.false
+returns c = λ q g.
+    all_from_yields_List (λ j. operand_holds (sheet_in c.args.t.now) (op_row (sheet_in c.args.t.now) j)) _ _ _ c.all.ensures.ran (YieldsList-from_range 0 _ _ refl (sub-zero _)) (λ x b r k. search (rules, tests, row_held))
+    ∙ ops_all _ c.count.ensures

@@ -10,4 +10,4 @@ pub returns-in_default-class_for : goal.returns-in_default-class_for
 returns-in_default-class_for c = λ q. group_classless _ _ _ _ c.in-Reg.is c.class_for.ensures c.in_default-class_for.is
 
 pub returns : goal.returns
-returns c = λ q g. group_classed _ _ _ _ c.in-Reg.is c.class_for.ensures _ _ _ c.in-At.is c.group_values.ensures (c.is_in.ensures ∙ heads_begin g _ _ _ c.head.ensures q) g
+returns c = λ q g. group_classed _ _ _ _ c.in-Reg.is c.class_for.ensures _ _ _ c.in-Some.is c.group_values.ensures (c.is_in.ensures ∙ heads_begin g _ _ _ c.head.ensures q) g

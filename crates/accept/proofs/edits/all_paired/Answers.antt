@@ -1,17 +1,16 @@
-use Rattle.accept.proofs.Walks.{all_stop, all_go, all_done}
-use Rattle.accept.proofs.Blockwise.{blocks_start}
-use mathlib.Core.Path.{ap}
-use mathlib.Core.Bool.{not}
+use native.Mathlib.Nat.{sub-zero}
+use mathlib.Core.Path.{refl, ◌∙◌}
+use borrow.Author.Tests.{tests}
+use Rattle.std.proofs.Common.{rules}
+use Rattle.std.proofs.lemmas.Iterator.{YieldsList-from_range}
+use Rattle.std.proofs.lemmas.Iterator.Search.{all_from_yields_List}
+use Rattle.table.specs.Sheet.{sheet_in}
+use mathlib.Core.Option.{none}
+use Rattle.rules.specs.Accept.{paired, edits_in}
+use Rattle.accept.proofs.Blockwise.{blocks_all}
 use Rattle.accept.proofs.edits.all_paired.Goals as goal
 
-pub loop-b-init : goal.loop-b-init
-loop-b-init c = λ g o. blocks_start _ _ _ c.count-blocks.ensures
-
-pub returns-then-not-paired_in : goal.returns-then-not-paired_in
-returns-then-not-paired_in c = λ g o. all_stop _ _ _ (λ (u : Unit {0}). c.loop-b.invariant g o) (λ u. c.paired_in.ensures g o) (ap not c.if-not-paired_in.true) c.loop-b-test.true tt
-
-pub loop-b-preserved : goal.loop-b-preserved
-loop-b-preserved c = λ g o. all_go _ _ _ (λ (u : Unit {0}). c.loop-b.invariant g o) (λ u. c.paired_in.ensures g o) (ap not c.if-not-paired_in.false) c.loop-b-test.true tt
-
 pub returns : goal.returns
-returns c = λ g o. all_done _ _ _ (λ (u : Unit {0}). c.loop-b.invariant g o) c.loop-b-test.false tt
+returns c = λ g o.
+    all_from_yields_List (λ b. paired none (edits_in (sheet_in c.args.t.now) b)) _ _ _ c.all.ensures.ran (YieldsList-from_range 0 _ _ refl (sub-zero _)) (λ x b q k. search (rules, tests))
+    ∙ blocks_all _ _ c.count.ensures

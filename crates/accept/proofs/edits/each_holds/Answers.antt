@@ -1,17 +1,17 @@
-use Rattle.accept.proofs.Walks.{all_stop, all_go, all_done}
-use Rattle.accept.proofs.Pairing.{each_start, row_held}
-use mathlib.Core.Path.{ap}
-use mathlib.Core.Bool.{not}
+use native.Mathlib.Nat.{sub-zero}
+use mathlib.Core.Path.{refl, ◌∙◌}
+use borrow.Author.Tests.{tests}
+use Rattle.std.proofs.Common.{rules}
+use Rattle.std.proofs.lemmas.Iterator.{YieldsList-from_range}
+use Rattle.std.proofs.lemmas.Iterator.Search.{all_from_yields_List}
+use Rattle.table.specs.Sheet.{sheet_in}
+use Rattle.table.specs.View.{edit_row}
+use Rattle.accept.specs.Pairs.{edit_holds}
+use Rattle.accept.proofs.Pairing.{each_all, row_named, row_held}
 use Rattle.accept.proofs.edits.each_holds.Goals as goal
 
-pub loop-n-init : goal.loop-n-init
-loop-n-init c = λ g. each_start _ _ c.count-edits.ensures
-
-pub returns-then-not-edit_holds : goal.returns-then-not-edit_holds
-returns-then-not-edit_holds c = all_stop _ _ _ c.loop-n.invariant (row_held _ _ _ _ _ _ _ c.home_slots-homes.ensures c.shared_units-shared.ensures c.count-edits.ensures c.loop-n-test.true c.sheet_edit.ensures c.edit_holds.ensures) (ap not c.if-not-edit_holds.true) c.loop-n-test.true
-
-pub loop-n-preserved : goal.loop-n-preserved
-loop-n-preserved c = all_go _ _ _ c.loop-n.invariant (row_held _ _ _ _ _ _ _ c.home_slots-homes.ensures c.shared_units-shared.ensures c.count-edits.ensures c.loop-n-test.true c.sheet_edit.ensures c.edit_holds.ensures) (ap not c.if-not-edit_holds.false) c.loop-n-test.true
-
 pub returns : goal.returns
-returns c = all_done _ _ _ c.loop-n.invariant c.loop-n-test.false
+returns c = λ g.
+    all_from_yields_List (λ n. edit_holds (sheet_in c.args.t.now) (edit_row (sheet_in c.args.t.now) n).edit) _ _ _ c.all.ensures.ran (YieldsList-from_range 0 _ _ refl (sub-zero _))
+    (λ x b q k. search (rules, tests, row_held c.args.t.now x, row_named c.args.t.now g x))
+    ∙ each_all _ c.count.ensures

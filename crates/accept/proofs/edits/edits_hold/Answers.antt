@@ -1,16 +1,14 @@
 use Rattle.accept.proofs.Pairing.{unordered, none_asked, one_broken, all_held}
-use mathlib.Core.Path.{ap}
-use mathlib.Core.Bool.{not}
 use Rattle.accept.proofs.edits.edits_hold.Goals as goal
 
-pub returns-then-not-in_order : goal.returns-then-not-in_order
-returns-then-not-in_order c = unordered _ _ c.in_order.ensures (ap not c.if-not-in_order.true)
+pub returns-else-in_order : goal.returns-else-in_order
+returns-else-in_order c = unordered _ _ c.in_order.ensures c.if-in_order.false
 
 pub returns-then-not-some_emergency : goal.returns-then-not-some_emergency
-returns-then-not-some_emergency c = none_asked _ _ _ c.in_order.ensures (ap not c.if-not-in_order.false) c.some_emergency.ensures (ap not c.if-not-some_emergency.true)
+returns-then-not-some_emergency c = none_asked _ _ _ c.in_order.ensures c.if-in_order.true c.some_emergency.ensures c.if-not-some_emergency.true
 
-pub returns-then-not-each_holds : goal.returns-then-not-each_holds
-returns-then-not-each_holds c = one_broken _ _ c.each_holds.ensures (ap not c.if-not-each_holds.true)
+pub returns-else-each_holds : goal.returns-else-each_holds
+returns-else-each_holds c = one_broken _ _ c.each_holds.ensures c.if-each_holds.false
 
-pub returns : goal.returns
-returns c = all_held _ _ _ _ c.in_order.ensures (ap not c.if-not-in_order.false) c.each_holds.ensures (ap not c.if-not-each_holds.false) c.all_paired.ensures
+pub returns-then-each_holds : goal.returns-then-each_holds
+returns-then-each_holds c = all_held _ _ _ _ c.in_order.ensures c.if-in_order.true c.each_holds.ensures c.if-each_holds.true c.all_paired.ensures

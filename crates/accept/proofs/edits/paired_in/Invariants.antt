@@ -6,7 +6,4 @@ use mathlib.Core.Path.{◌≡◌}
 use Rattle.accept.proofs.edits.paired_in.Given as goal
 
 abbrev pub invariant-loop-n : goal.invariant-loop-n
-invariant-loop-n l = paired_by l.held (edits_of (take (l.rows.to - l.n) (drop l.n (sheet_in l.t).edits))) ≡ paired_by l.initial.held (edits_of (take (l.rows.to - l.initial.n) (drop l.initial.n (sheet_in l.t).edits)))
-
-abbrev pub decreases-loop-n : goal.decreases-loop-n
-decreases-loop-n l = l.rows.to - l.n
+invariant-loop-n l = paired_by l.held (edits_of (take (l.n-end - l.n) (drop l.n (sheet_in l.t).edits))) ≡ paired_by l.initial.held (edits_of (take (l.n-end - l.initial.n) (drop l.initial.n (sheet_in l.t).edits)))

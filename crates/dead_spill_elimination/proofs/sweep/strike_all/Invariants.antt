@@ -1,10 +1,5 @@
-use Prim.Native.Nat.{◌-◌}
-use lib.ListN.{length}
 use Rattle.dead_spill_elimination.proofs.Overall.{Overall}
 use Rattle.dead_spill_elimination.proofs.sweep.strike_all.Given as goal
 
 abbrev pub invariant-loop-b : goal.invariant-loop-b
 invariant-loop-b l = Overall l.t l.touched l.ends l.edits l.initial.marks l.initial.counts l.marks l.counts l.b
-
-abbrev pub decreases-loop-b : goal.decreases-loop-b
-decreases-loop-b l = length l.ends - l.b

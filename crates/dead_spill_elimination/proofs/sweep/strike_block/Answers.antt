@@ -5,13 +5,7 @@ pub loop-i-init : goal.loop-i-init
 loop-i-init c = block_first _ _ _ _ _ _ _
 
 pub loop-i-preserved : goal.loop-i-preserved
-loop-i-preserved c = block_next _ _ _ _ _ _ _ _ c.loop-i.invariant c.loop-i-test.true c.strike_inst-live.auto.marks c.strike_inst-live.auto.counts c.strike_inst-live.ensures
-
-pub shape_of-marks : goal.shape_of-marks
-shape_of-marks c = c.loop-i.invariant.1
-
-pub shape_of-counts : goal.shape_of-counts
-shape_of-counts c = c.loop-i.invariant.2
+loop-i-preserved c = block_next _ _ _ _ _ _ _ _ c.loop-i.invariant c.loop-i-test.true c.strike_inst-live.ensures
 
 pub returns : goal.returns
 returns c = block_last _ _ _ _ _ _ _ _ _ c.loop-i.invariant c.loop-i-test.false c.insts_of-insts.ensures

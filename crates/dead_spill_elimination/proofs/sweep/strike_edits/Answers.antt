@@ -5,13 +5,7 @@ pub loop-n-init : goal.loop-n-init
 loop-n-init c = edits_first _ _ _ _ _
 
 pub loop-n-preserved : goal.loop-n-preserved
-loop-n-preserved c = edits_next _ _ _ _ _ _ c.loop-n.invariant c.loop-n-test.true c.strike-live.auto.marks c.strike-live.auto.counts c.strike-live.ensures
-
-pub shape_of-marks : goal.shape_of-marks
-shape_of-marks c = c.loop-n.invariant.1
-
-pub shape_of-counts : goal.shape_of-counts
-shape_of-counts c = c.loop-n.invariant.2
+loop-n-preserved c = edits_next _ _ _ _ _ _ c.loop-n.invariant c.loop-n-test.true c.strike-live.auto.marks c.strike-live.ensures
 
 pub returns : goal.returns
 returns c = edits_done _ _ _ _ _ _ c.loop-n.invariant c.loop-n-test.false

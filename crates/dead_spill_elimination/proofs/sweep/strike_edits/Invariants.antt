@@ -2,7 +2,4 @@ use Rattle.dead_spill_elimination.proofs.Striking.{Edits}
 use Rattle.dead_spill_elimination.proofs.sweep.strike_edits.Given as goal
 
 abbrev pub invariant-loop-n : goal.invariant-loop-n
-invariant-loop-n l = Edits l.rows l.edits l.initial.marks l.initial.counts l.initial.live.0 l.marks l.counts l.live.0 l.n
-
-abbrev pub decreases-loop-n : goal.decreases-loop-n
-decreases-loop-n l = l.n
+invariant-loop-n l = Edits l.fn.rows l.edits l.initial.marks l.initial.counts l.initial.live.0 l.marks l.counts l.live.0 l.n

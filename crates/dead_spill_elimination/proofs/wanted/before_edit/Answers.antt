@@ -1,11 +1,12 @@
+use Rattle.std.proofs.Common.{inl, inr}
 use Rattle.dead_spill_elimination.proofs.Members.{before_move, before_load, before_remat, before_espill, before_ereload, before_misplaced, before_none}
 use Rattle.dead_spill_elimination.proofs.wanted.before_edit.Goals as goal
 
-pub returns-in-Slot : goal.returns-in-Slot
-returns-in-Slot c = λ A. before_move _ _ A c.in-Move.is c.in-Slot.is (c.moved.ensures A)
+pub returns-in-Move-Slot-default-default : goal.returns-in-Move-Slot-default-default
+returns-in-Move-Slot-default-default c = let m = c.in-Move-Slot-default-default in λ A. before_move _ _ A m.is (rw m.is at m.to-is) (c.moved.ensures A)
 
-pub returns-in-Reg : goal.returns-in-Reg
-returns-in-Reg c = λ A. before_load _ _ A c.in-Move.is c.in-Reg.is c.with_place.ensures
+pub returns-in-Move-Reg-default-default : goal.returns-in-Move-Reg-default-default
+returns-in-Move-Reg-default-default c = let m = c.in-Move-Reg-default-default in λ A. before_load _ _ A m.is (rw m.is at m.to-is) c.with_place.ensures
 
 pub returns-in-Remat : goal.returns-in-Remat
 returns-in-Remat c = λ A. before_remat _ _ A c.in-Remat.is (c.without_place.ensures A)
@@ -17,7 +18,4 @@ pub returns-in-Ereload : goal.returns-in-Ereload
 returns-in-Ereload c = λ A. before_ereload _ _ A c.in-Ereload.is c.insert.ensures
 
 pub returns-in-Misplaced : goal.returns-in-Misplaced
-returns-in-Misplaced c = λ A. before_misplaced _ A c.in-Misplaced.is
-
-pub returns-in-Nothing : goal.returns-in-Nothing
-returns-in-Nothing c = λ A. before_none _ A c.in-Nothing.is
+returns-in-Misplaced c = λ A. elim c.in-Misplaced.is [ inl m ↦ before_misplaced _ A m.2 | inr n ↦ before_none _ A n ]

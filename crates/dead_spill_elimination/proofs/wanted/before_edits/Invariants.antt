@@ -7,7 +7,4 @@ use Rattle.dead_spill_elimination.proofs.Down.{Going}
 use Rattle.dead_spill_elimination.proofs.wanted.before_edits.Given as goal
 
 abbrev pub invariant-loop-n : goal.invariant-loop-n
-invariant-loop-n l = Going ((j : ℕ) → In j (numbers l.rows) → LowReads (edit (edit_in l.edits j))) (λ j B. wanted_before (edit (edit_in l.edits j)) B) l.rows l.initial.live.0 l.live.0 l.n
-
-abbrev pub decreases-loop-n : goal.decreases-loop-n
-decreases-loop-n l = l.n
+invariant-loop-n l = Going ((j : ℕ) → In j (numbers l.fn.rows) → LowReads (edit (edit_in l.edits j))) (λ j B. wanted_before (edit (edit_in l.edits j)) B) l.fn.rows l.initial.live.0 l.live.0 l.n

@@ -1,7 +1,5 @@
-use mathlib.Core.Path.{◌≡◌}
 use mathlib.Core.List.{List}
 use Prim.Native.Nat.{ℕ, ◌+◌, ◌-◌}
-use lib.ListN.{length}
 use Rattle.rules.specs.Forward.{Walk, Handed, visits}
 use Rattle.table.specs.Sheet.{sheet_in}
 use Rattle.moves.specs.Walks.{Ordered}
@@ -9,8 +7,5 @@ use Rattle.move_optimizer.specs.Levels.{Stands}
 use Rattle.move_optimizer.proofs.Visits.{Walking}
 use Rattle.move_optimizer.proofs.levels.visits.Given as goal
 
-abbrev pub invariant-loop-k : goal.invariant-loop-k
-invariant-loop-k l = (length l.states ≡ length l.initial.states) × (length l.counts ≡ length l.initial.counts) × (Ordered l.t → (places : List ℕ) (n : ℕ) (wh : Walk × Handed) → Stands l.t l.initial.rec l.initial.states l.edits places l.initial.counts l.initial.w.0 (n + l.most) wh → Walking l.t l.rec l.states l.edits places l.counts l.w.0 n (l.most - l.k) (visits (sheet_in l.t) l.most wh))
-
-abbrev pub decreases-loop-k : goal.decreases-loop-k
-decreases-loop-k l = l.most - l.k
+abbrev pub invariant-loop : goal.invariant-loop
+invariant-loop l = Ordered l.t → (places : List ℕ) (n : ℕ) (wh : Walk × Handed) → Stands l.t l.initial.rec l.initial.states l.edits places l.initial.counts l.initial.w.0 (n + l.most) wh → Walking l.t l.rec l.states l.edits places l.counts l.w.0 n (l.most - l.counter) (visits (sheet_in l.t) l.most wh)

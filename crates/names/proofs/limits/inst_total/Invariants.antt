@@ -1,5 +1,5 @@
 use mathlib.Core.Path.{◌≡◌}
-use Prim.Native.Nat.{◌+◌, ◌-◌, ◌≤◌}
+use Prim.Native.Nat.{◌+◌, ◌≤◌}
 use lib.ListN.{drop}
 use Rattle.entity.specs.Limits.{inst_limit}
 use Rattle.rules.specs.Sheet.{total_of}
@@ -8,6 +8,3 @@ use Rattle.names.proofs.limits.inst_total.Given as goal
 
 abbrev pub invariant-loop-b : goal.invariant-loop-b
 invariant-loop-b l = (l.sum ≤ inst_limit) × (l.sum + total_of (drop l.b (sheet_in l.t).blocks) ≡ total_of (sheet_in l.t).blocks)
-
-abbrev pub decreases-loop-b : goal.decreases-loop-b
-decreases-loop-b l = l.blocks - l.b

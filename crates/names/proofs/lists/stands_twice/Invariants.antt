@@ -1,13 +1,9 @@
 use mathlib.Core.Path.{◌≡◌}
-use Prim.Native.Nat.{◌-◌}
-use lib.ListN.{length, drop}
+use lib.ListN.{drop}
 use mathlib.Core.Bool.{true}
 use Rattle.laws.specs.Lists.{twice}
 use Rattle.names.proofs.Sets.{below, again}
 use Rattle.names.proofs.lists.stands_twice.Given as goal
 
-abbrev pub invariant-loop-i : goal.invariant-loop-i
-invariant-loop-i l = below l.list ≡ true → again l.seen (drop l.i l.list) ≡ twice l.list
-
-abbrev pub decreases-loop-i : goal.decreases-loop-i
-decreases-loop-i l = length l.list - l.i
+abbrev pub invariant-loop-x : goal.invariant-loop-x
+invariant-loop-x l = below l.list ≡ true → again l.seen (drop l.x-index l.list) ≡ twice l.list

@@ -1,22 +1,22 @@
-use mathlib.Core.Path.{sym, ◌∙◌}
-use Rattle.names.proofs.Within.{names_by, code_is}
+use borrow.Author.Rules.{rules}
 use Rattle.table.specs.Sheet.{sheet_in}
+use Rattle.table.proofs.Sheets.{succs_are, preds_are}
+use Rattle.names.specs.Steps.{edge_named}
+use Rattle.names.proofs.Rows.{by_rows}
+use Rattle.names.proofs.Within.{names_by, code_is}
 use Rattle.names.proofs.names.all_named.Goals as goal
 
-pub returns-then-not-machine_named : goal.returns-then-not-machine_named
-returns-then-not-machine_named c = λ w. rw (names_by (sheet_in c.args.t.now), sym c.machine_named.ensures ∙ c.if-not-machine_named.true)
+pub returns-then-params_named : goal.returns-then-params_named
+returns-then-params_named c = λ w.
+    let t = c.args.t.now in
+    let succs = by_rows (succs_are t) (edge_named (sheet_in t)) in
+    let preds = by_rows (preds_are t) (edge_named (sheet_in t)) in
+    let code = code_is (sheet_in t) w c.inst_total.ensures c.all_units.ensures in
+    rw (names_by (sheet_in t)) (search rules)
 
-pub returns-then-not-idoms_named : goal.returns-then-not-idoms_named
-returns-then-not-idoms_named c = λ w. rw (names_by (sheet_in c.args.t.now), sym c.machine_named.ensures ∙ c.if-not-machine_named.false, sym c.idoms_named.ensures ∙ c.if-not-idoms_named.true)
-
-pub returns-then-not-succs_named : goal.returns-then-not-succs_named
-returns-then-not-succs_named c = λ w. rw (names_by (sheet_in c.args.t.now), sym c.machine_named.ensures ∙ c.if-not-machine_named.false, sym c.idoms_named.ensures ∙ c.if-not-idoms_named.false, sym c.succs_named.ensures ∙ c.if-not-succs_named.true)
-
-pub returns-then-not-preds_named : goal.returns-then-not-preds_named
-returns-then-not-preds_named c = λ w. rw (names_by (sheet_in c.args.t.now), sym c.machine_named.ensures ∙ c.if-not-machine_named.false, sym c.idoms_named.ensures ∙ c.if-not-idoms_named.false, sym c.succs_named.ensures ∙ c.if-not-succs_named.false, sym c.preds_named.ensures ∙ c.if-not-preds_named.true)
-
-pub returns-then-not-params_named : goal.returns-then-not-params_named
-returns-then-not-params_named c = λ w. rw (names_by (sheet_in c.args.t.now), sym c.machine_named.ensures ∙ c.if-not-machine_named.false, sym c.idoms_named.ensures ∙ c.if-not-idoms_named.false, sym c.succs_named.ensures ∙ c.if-not-succs_named.false, sym c.preds_named.ensures ∙ c.if-not-preds_named.false, sym c.params_named.ensures ∙ c.if-not-params_named.true)
-
-pub returns : goal.returns
-returns c = λ w. rw (names_by (sheet_in c.args.t.now), sym c.machine_named.ensures ∙ c.if-not-machine_named.false, sym c.idoms_named.ensures ∙ c.if-not-idoms_named.false, sym c.succs_named.ensures ∙ c.if-not-succs_named.false, sym c.preds_named.ensures ∙ c.if-not-preds_named.false, sym c.params_named.ensures ∙ c.if-not-params_named.false) (c.code_named.ensures ∙ code_is (sheet_in c.args.t.now) w c.inst_total.ensures c.all_units.ensures)
+pub returns-else-params_named : goal.returns-else-params_named
+returns-else-params_named c = λ w.
+    let t = c.args.t.now in
+    let succs = by_rows (succs_are t) (edge_named (sheet_in t)) in
+    let preds = by_rows (preds_are t) (edge_named (sheet_in t)) in
+    rw (names_by (sheet_in t)) (search rules)

@@ -13,8 +13,8 @@ loop-r-init c = grow_none _ _ c.empty-seen.ensures
 
 pub loop-r-preserved : goal.loop-r-preserved
 unfolding unit_exists
-loop-r-preserved c = let l = long_of (regs_are c.args.t.now) in grow_next c.loop-r.invariant (record { memory = false; units = [] }) (omega (arith, c.count-regs.ensures)) (c.with_all-seen.ensures ∙ add_list _ c.units.ensures)
+loop-r-preserved c = let l = long_of (regs_are c.args.t.now) in grow_next c.loop-r.invariant (record { memory = false; units = [] }) (omega (arith, c.count-r-end.ensures)) (c.with_all-seen.ensures ∙ add_list _ c.units.ensures)
 
 pub returns : goal.returns
 unfolding unit_exists
-returns c = let l = long_of (regs_are c.args.t.now) in grow_end c.loop-r.invariant (omega (arith, c.count-regs.ensures))
+returns c = c.of.ensures ∙ let l = long_of (regs_are c.args.t.now) in grow_end c.loop-r.invariant (omega (arith, c.count-r-end.ensures))

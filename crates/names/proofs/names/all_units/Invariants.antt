@@ -1,4 +1,3 @@
-use Prim.Native.Nat.{◌-◌}
 use Rattle.laws.specs.Lists.{is_in}
 use Rattle.bits.specs.Sets.{set_of}
 use Rattle.rules.specs.Accept.{unit_exists}
@@ -8,6 +7,3 @@ use Rattle.names.proofs.names.all_units.Given as goal
 
 abbrev pub invariant-loop-r : goal.invariant-loop-r
 invariant-loop-r l = Growing (λ k q. is_in k q.units) (sheet_in l.t).regs (set_of (unit_exists (sheet_in l.t))) l.r l.seen
-
-abbrev pub decreases-loop-r : goal.decreases-loop-r
-decreases-loop-r l = l.regs - l.r

@@ -1,10 +1,11 @@
-use mathlib.Core.Path.{ap, ◌∙◌}
-use lib.ListN.{drop}
-use Rattle.laws.specs.Lists.{all}
-use Rattle.rules.specs.Sheet.{field, list_row}
-use Rattle.names.proofs.Rows.{and_is, below_is}
+use borrow.Author.Rules.{rules}
+use Rattle.rules.specs.Sheet.{list_row}
 use Rattle.names.proofs.names.clob_named.Goals as goal
 
-pub returns : goal.returns
+pub returns-then-read-insts : goal.returns-then-read-insts
 unfolding list_row
-returns c = and_is c.both.ensures (below_is _ (c.read_u32.ensures ∙ ap (field 1) c.row_of-row.ensures)) (c.all_in.ensures ∙ ap (all _) (c.rest.ensures ∙ ap (drop 2) c.row_of-row.ensures))
+returns-then-read-insts c = search rules
+
+pub returns-else-read-insts : goal.returns-else-read-insts
+unfolding list_row
+returns-else-read-insts c = search rules

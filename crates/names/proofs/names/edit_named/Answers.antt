@@ -1,9 +1,10 @@
-use mathlib.Core.Path.{refl, sym, ap, ◌∙◌}
-use Rattle.rules.specs.Accept.{edit_names}
+use mathlib.Core.Path.{refl}
+use borrow.Author.Rules.{rules}
+use Rattle.entity.specs.declared.forms.Edit.TheVariants as Edit
 use Rattle.table.proofs.Stored.{sheet_edit_is}
-use Rattle.names.proofs.Rows.{and_is, below_is}
-use Rattle.table.specs.Sheet.{sheet_in}
 use Rattle.names.proofs.names.edit_named.Goals as goal
 
-pub returns : goal.returns
-returns c = and_is c.both.ensures (below_is _ c.edit_at-i.ensures) (c.edit_names.ensures ∙ ap (edit_names (sheet_in c.args.t.now)) (c.sheet_edit.ensures ∙ sym (sheet_edit_is _ _ _ refl)))
+pub returns-then-edit_at-insts : goal.returns-then-edit_at-insts
+returns-then-edit_at-insts c =
+    let s = sheet_edit_is c.args.t.now c.args.n.0 (record { at = 0; edit = Edit.Nothing }) refl in
+    search rules

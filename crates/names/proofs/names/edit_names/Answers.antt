@@ -1,29 +1,47 @@
-use mathlib.Core.Path.{sym, ap, ◌∙◌}
+use borrow.Author.Rules.{rules}
 use Rattle.rules.specs.Accept.{edit_names}
-use Rattle.names.proofs.Rows.{and_is}
-use Rattle.table.specs.Sheet.{sheet_in}
 use Rattle.names.proofs.names.edit_names.Goals as goal
 
-pub returns-in-Move : goal.returns-in-Move
+pub returns-then-place_exists-2 : goal.returns-then-place_exists-2
 unfolding edit_names
-returns-in-Move c = and_is c.both-in-Move.ensures (and_is c.both.ensures c.place_exists.ensures c.place_exists-in-Move.ensures) c.value_exists.ensures ∙ ap (edit_names (sheet_in c.args.t.now)) (sym c.in-Move.is)
+returns-then-place_exists-2 c = search rules
 
-pub returns-in-Remat : goal.returns-in-Remat
+pub returns-else-place_exists-2 : goal.returns-else-place_exists-2
 unfolding edit_names
-returns-in-Remat c = and_is c.both-in-Remat.ensures c.place_exists-in-Remat.ensures c.value_exists-in-Remat.ensures ∙ ap (edit_names (sheet_in c.args.t.now)) (sym c.in-Remat.is)
+returns-else-place_exists-2 c = search rules
 
-pub returns-in-Espill : goal.returns-in-Espill
+pub returns-then-place_exists-3 : goal.returns-then-place_exists-3
 unfolding edit_names
-returns-in-Espill c = and_is c.both-in-Espill.ensures c.slot_exists.ensures c.reg_exists.ensures ∙ ap (edit_names (sheet_in c.args.t.now)) (sym c.in-Espill.is)
+returns-then-place_exists-3 c = search rules
 
-pub returns-in-Ereload : goal.returns-in-Ereload
+pub returns-else-place_exists-3 : goal.returns-else-place_exists-3
 unfolding edit_names
-returns-in-Ereload c = and_is c.both-in-Ereload.ensures c.reg_exists-in-Ereload.ensures c.slot_exists-in-Ereload.ensures ∙ ap (edit_names (sheet_in c.args.t.now)) (sym c.in-Ereload.is)
+returns-else-place_exists-3 c = search rules
 
-pub returns-in-Misplaced : goal.returns-in-Misplaced
+pub returns-then-slot_exists : goal.returns-then-slot_exists
 unfolding edit_names
-returns-in-Misplaced c = and_is c.both-in-Misplaced.ensures c.place_exists-in-Misplaced.ensures c.place_exists-in-Misplaced-2.ensures ∙ ap (edit_names (sheet_in c.args.t.now)) (sym c.in-Misplaced.is)
+returns-then-slot_exists c = search rules
+
+pub returns-else-slot_exists : goal.returns-else-slot_exists
+unfolding edit_names
+returns-else-slot_exists c = search rules
+
+pub returns-then-reg_exists : goal.returns-then-reg_exists
+unfolding edit_names
+returns-then-reg_exists c = search rules
+
+pub returns-else-reg_exists : goal.returns-else-reg_exists
+unfolding edit_names
+returns-else-reg_exists c = search rules
+
+pub returns-then-place_exists-4 : goal.returns-then-place_exists-4
+unfolding edit_names
+returns-then-place_exists-4 c = search rules
+
+pub returns-else-place_exists-4 : goal.returns-else-place_exists-4
+unfolding edit_names
+returns-else-place_exists-4 c = search rules
 
 pub returns-in-Nothing : goal.returns-in-Nothing
 unfolding edit_names
-returns-in-Nothing c = ap (edit_names (sheet_in c.args.t.now)) (sym c.in-Nothing.is)
+returns-in-Nothing c = search rules

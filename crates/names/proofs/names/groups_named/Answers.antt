@@ -1,13 +1,8 @@
-use mathlib.Core.Path.{sym, ◌∙◌}
+use mathlib.Core.List.{[]}
+use borrow.Author.Rules.{rules}
 use Rattle.table.proofs.Sheets.{groups_are}
-use Rattle.names.proofs.Rows.{rows_fail, rows_next, rows_end}
+use Rattle.names.proofs.Rows.{all_rows}
 use Rattle.names.proofs.names.groups_named.Goals as goal
 
-pub returns-then-not-group_named : goal.returns-then-not-group_named
-returns-then-not-group_named c = rows_fail (groups_are _) _ c.count-rows.ensures _ c.loop-g.invariant _ c.loop-g-test.true (sym c.group_named.ensures ∙ c.if-not-group_named.true)
-
-pub loop-g-preserved : goal.loop-g-preserved
-loop-g-preserved c = rows_next (groups_are _) _ c.count-rows.ensures _ c.loop-g.invariant _ c.loop-g-test.true (sym c.group_named.ensures ∙ c.if-not-group_named.false)
-
 pub returns : goal.returns
-returns c = rows_end (groups_are _) _ c.count-rows.ensures _ c.loop-g.invariant c.loop-g-test.false
+returns c = all_rows (groups_are _) c.count.ensures c.all.ensures.ran _ (record { class = 0; regs = [] }) (λ i b q k. search rules)

@@ -1,12 +1,11 @@
-use mathlib.Core.Path.{sym, ap, ◌∙◌}
+use borrow.Author.Rules.{rules}
 use Rattle.rules.specs.Accept.{place_exists}
-use Rattle.table.specs.Sheet.{sheet_in}
 use Rattle.names.proofs.names.place_exists.Goals as goal
 
 pub returns-in-Reg : goal.returns-in-Reg
 unfolding place_exists
-returns-in-Reg c = c.reg_exists.ensures ∙ ap (place_exists (sheet_in c.args.t.now)) (sym c.in-Reg.is)
+returns-in-Reg c = search rules
 
 pub returns-in-Slot : goal.returns-in-Slot
 unfolding place_exists
-returns-in-Slot c = c.slot_exists.ensures ∙ ap (place_exists (sheet_in c.args.t.now)) (sym c.in-Slot.is)
+returns-in-Slot c = search rules

@@ -1,7 +1,6 @@
-use mathlib.Core.Path.{sym, ◌∙◌}
+use borrow.Author.Rules.{rules}
 use Rattle.table.proofs.Sheets.{long_of, values_are}
-use Rattle.names.proofs.Rows.{list_below}
 use Rattle.names.proofs.names.vgroup_named.Goals as goal
 
 pub returns : goal.returns
-returns c = list_below c.all_below.ensures (c.count.ensures ∙ sym (long_of (values_are _))) c.group_values.ensures
+returns c = let l = long_of (values_are c.args.t.now) in search rules

@@ -14,39 +14,39 @@ use Rattle.sheet.proofs.fields.packed.Goals as goal
 
 pub loop-k-init : goal.loop-k-init
 unfolding pack
-loop-k-init c = (omega arith, omega arith, omega arith, refl, omega arith)
+loop-k-init c = (omega arith, omega arith, refl, omega arith)
 
 pub overflow_add-result : goal.overflow_add-result
 unfolding pack
-overflow_add-result c = let room = pack_room c.loop-k.k c.loop-k.m c.loop-k.w 0 (omega arith) c.loop-k.invariant.3 c.loop-k.invariant.4 (omega arith) in omega (arith, room)
+overflow_add-result c = let room = pack_room c.loop-k.k c.loop-k.m c.loop-k.w 0 (omega arith) c.loop-k.invariant.2 c.loop-k.invariant.3 (omega arith) in omega (arith, room)
 
 pub returns-then-b-le44 : goal.returns-then-b-le44
 unfolding pack
-returns-then-b-le44 c = let t = c.args.t.now in let e = lead_stop (ltb 44) (7 - c.loop-k.k) t c.loop-k.k (le-ltb 44 (get_or t c.loop-k.k 0) (omega arith)) in (sym (c.loop-k.invariant.1 ∙ rw e (omega arith)), omega (arith, ap length e))
+returns-then-b-le44 c = let t = c.args.t.now in let e = lead_stop (ltb 44) (7 - c.loop-k.k) t c.loop-k.k (le-ltb 44 (get_or t c.loop-k.k 0) (omega arith)) in (sym (c.loop-k.invariant.0 ∙ rw e (omega arith)), omega (arith, ap length e))
 
 pub overflow_cast-w : goal.overflow_cast-w
 unfolding pack
-overflow_cast-w c = let byte : c.read_u8-b.result < 256 = omega (arith, c.type_inv.t c.loop-k.k) in omega (arith, byte)
+overflow_cast-w c = let byte : c.read-b.result < 256 = omega (arith, c.type_inv.t c.loop-k.k) in omega (arith, byte)
 
 pub overflow_mul-w : goal.overflow_mul-w
 unfolding pack
-overflow_mul-w c = let byte : c.read_u8-b.result < 256 = omega (arith, c.type_inv.t c.loop-k.k) in let room = pack_room c.loop-k.k c.loop-k.m c.loop-k.w c.read_u8-b.result (omega arith) c.loop-k.invariant.3 c.loop-k.invariant.4 byte in omega (arith, room)
+overflow_mul-w c = let byte : c.read-b.result < 256 = omega (arith, c.type_inv.t c.loop-k.k) in let room = pack_room c.loop-k.k c.loop-k.m c.loop-k.w c.read-b.result (omega arith) c.loop-k.invariant.2 c.loop-k.invariant.3 byte in omega (arith, room)
 
 pub overflow_add-w : goal.overflow_add-w
 unfolding pack
-overflow_add-w c = let byte : c.read_u8-b.result < 256 = omega (arith, c.type_inv.t c.loop-k.k) in let room = pack_room c.loop-k.k c.loop-k.m c.loop-k.w c.read_u8-b.result (omega arith) c.loop-k.invariant.3 c.loop-k.invariant.4 byte in omega (arith, room)
+overflow_add-w c = let byte : c.read-b.result < 256 = omega (arith, c.type_inv.t c.loop-k.k) in let room = pack_room c.loop-k.k c.loop-k.m c.loop-k.w c.read-b.result (omega arith) c.loop-k.invariant.2 c.loop-k.invariant.3 byte in omega (arith, room)
 
 pub overflow_mul-m : goal.overflow_mul-m
 unfolding pack
-overflow_mul-m c = let byte : c.read_u8-b.result < 256 = omega (arith, c.type_inv.t c.loop-k.k) in let room = pack_room c.loop-k.k c.loop-k.m c.loop-k.w c.read_u8-b.result (omega arith) c.loop-k.invariant.3 c.loop-k.invariant.4 byte in omega (arith, room)
+overflow_mul-m c = let byte : c.read-b.result < 256 = omega (arith, c.type_inv.t c.loop-k.k) in let room = pack_room c.loop-k.k c.loop-k.m c.loop-k.w c.read-b.result (omega arith) c.loop-k.invariant.2 c.loop-k.invariant.3 byte in omega (arith, room)
 
 pub loop-k-preserved : goal.loop-k-preserved
 unfolding pack
-loop-k-preserved c = let byte : c.read_u8-b.result < 256 = omega (arith, c.type_inv.t c.loop-k.k) in let t = c.args.t.now in
-    let r = c.read_u8-b.ensures in
+loop-k-preserved c = let byte : c.read-b.result < 256 = omega (arith, c.type_inv.t c.loop-k.k) in let t = c.args.t.now in
+    let r = c.read-b.ensures in
     let e = lead_more (ltb 44) 7 t c.loop-k.k refl (omega arith) (lt-ltb 44 (get_or t c.loop-k.k 0) (omega arith)) in
-    let g = pack_grown c.loop-k.k c.loop-k.m c.loop-k.w c.read_u8-b.result (omega arith) c.loop-k.invariant.3 c.loop-k.invariant.4 byte in
-    (omega arith, c.loop-k.invariant.1 ∙ rw (e, r) (pack_more _ _ _ _), omega (arith, ap length e), g.0, g.1)
+    let g = pack_grown c.loop-k.k c.loop-k.m c.loop-k.w c.read-b.result (omega arith) c.loop-k.invariant.2 c.loop-k.invariant.3 byte in
+    (c.loop-k.invariant.0 ∙ rw (e, r) (pack_more _ _ _ _), omega (arith, ap length e), g.0, g.1)
 
 pub overflow_add-result-2 : goal.overflow_add-result-2
 unfolding pack
@@ -54,4 +54,4 @@ overflow_add-result-2 c = omega (arith, pow-le-pow_right {n = 256} (omega arith)
 
 pub returns : goal.returns
 unfolding pack
-returns c = let e = lead_done (ltb 44) 7 (drop c.loop-k.k c.args.t.now) c.loop-k.k (omega arith) in (sym (c.loop-k.invariant.1 ∙ rw e (omega arith)), omega (arith, ap length e))
+returns c = let e = lead_done (ltb 44) 7 (drop c.loop-k.k c.args.t.now) c.loop-k.k (omega arith) in (sym (c.loop-k.invariant.0 ∙ rw e (omega arith)), omega (arith, ap length e))

@@ -17,8 +17,8 @@ slice_bounds-ended-count c = let within : c.args.at + c.packed-p.result.1 ≤ le
 pub slice_bounds-ended-start : goal.slice_bounds-ended-start
 slice_bounds-ended-start c = let within : c.args.at + c.packed-p.result.1 ≤ length c.args.s.now = word_within c.args.s.now c.args.at _ _ c.packed-p.ensures.0 c.packed-p.ensures.1 c.requires in omega (arith, within)
 
-pub returns-in-Is : goal.returns-in-Is
-returns-in-Is c = let a = c.args in c.ended.ensures ∙ word_ended a.s.now a.at _ _ c.packed-p.ensures.0 c.packed-p.ensures.1 (λ i. omega (arith, c.type_inv.s i)) _ (is_some _ _ c.lookup.ensures c.in-Is.is)
+pub returns-in_err-c : goal.returns-in_err-c
+returns-in_err-c c = let a = c.args in c.from_residual.ensures ∙ word_unread a.s.now a.at _ _ c.packed-p.ensures.0 c.packed-p.ensures.1 (λ i. omega (arith, c.type_inv.s i)) (is_none _ c.lookup.ensures c.in_err-c.was)
 
-pub returns-in-Nothing : goal.returns-in-Nothing
-returns-in-Nothing c = let a = c.args in word_unread a.s.now a.at _ _ c.packed-p.ensures.0 c.packed-p.ensures.1 (λ i. omega (arith, c.type_inv.s i)) (is_none _ c.lookup.ensures c.in-Nothing.is)
+pub returns : goal.returns
+returns c = let a = c.args in c.ended.ensures ∙ word_ended a.s.now a.at _ _ c.packed-p.ensures.0 c.packed-p.ensures.1 (λ i. omega (arith, c.type_inv.s i)) _ (is_some _ _ c.lookup.ensures c.in_ok-c.was)

@@ -1,31 +1,22 @@
-use mathlib.Core.Path.{◌≡◌, refl, sym, ◌∙◌}
+use mathlib.Core.Path.{sym, ◌∙◌}
 use native.Mathlib.Omega.{arith}
-use lib.ListN.{length-set}
-use Rattle.states.specs.Layout.{known_size}
+use Prim.Native.Nat.{◌+◌, ◌-◌, ◌≤◌}
+use lib.ListN.{length, set, length-set}
+use Rattle.states.specs.Layout.{known_size, state_at}
 use Rattle.rules.specs.Record.{absent}
-use Rattle.states.proofs.Spans.{span_none, span_store}
-use Rattle.states.proofs.Cells.{fits_below, fits_room, marked, unset_sets}
+use Rattle.states.proofs.Spans.{span_filled}
+use Rattle.states.proofs.Cells.{fits_room, marked, unset_sets}
 use Rattle.states.proofs.FirstStates.{nothing_known}
-use borrow.Author.Rules.{rules}
 use Rattle.states.proofs.handed.set_nothing.Goals as goal
 
-pub bounds-states-b : goal.bounds-states-b
-bounds-states-b c = let x = c.args in let e = sym c.fits.ensures ∙ c.if-fits.true in omega (arith, fits_below x.states.now x.b.0 e, fits_room x.states.now x.b.0 e)
-
-pub loop-i-init : goal.loop-i-init
-loop-i-init c = let x = c.args in (search rules, omega (arith, fits_room x.states.now x.b.0 (sym c.fits.ensures ∙ c.if-fits.true), length-set x.states.now x.b.0 1), span_none _ _ _)
-
-pub bounds-states-at : goal.bounds-states-at
-bounds-states-at c = omega (arith, c.loop-i.invariant.1, c.loop-i.invariant.2.long)
-
-pub loop-i-preserved : goal.loop-i-preserved
-loop-i-preserved c = (omega arith, c.loop-i.invariant.1, span_store _ _ _ _ _ _ c.loop-i.invariant.2 refl (omega (arith, c.loop-i.invariant.1)))
-
-pub shape_of-states-after-loop-i : goal.shape_of-states-after-loop-i
-shape_of-states-after-loop-i c = let x = c.args in c.loop-i.invariant.2.long ∙ length-set x.states.now x.b.0 1
-
-pub returns-after-loop-i : goal.returns-after-loop-i
-returns-after-loop-i c = let e : c.loop-i.i ≡ known_size = omega arith in let p = rw e at c.loop-i.invariant.2 in marked (λ j. absent) _ _ _ _ (sym c.fits.ensures ∙ c.if-fits.true) p (λ q. nothing_known _ _ _ q p)
+pub returns-then-fits : goal.returns-then-fits
+returns-then-fits c = let x = c.args in
+    let e = sym c.fits.ensures ∙ c.if-fits.true in
+    let at = state_at x.b.0 in
+    let m = set x.states.now x.b.0 1 in
+    let room : at + known_size ≤ length m = omega (arith, fits_room x.states.now x.b.0 e, length-set x.states.now x.b.0 1) in
+    let p = span_filled at absent m c.fill.new.self {n = at + known_size - at} known_size (omega arith) room (c.fill.ensures.after (λ y k. k)) in
+    marked (λ j. absent) _ _ _ _ e p (λ q. nothing_known _ _ _ q p)
 
 pub returns-else-fits : goal.returns-else-fits
 returns-else-fits c = unset_sets _ _ _ (sym c.fits.ensures ∙ c.if-fits.false)

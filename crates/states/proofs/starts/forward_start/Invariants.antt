@@ -1,6 +1,4 @@
-use mathlib.Core.Path.{◌≡◌}
-use Prim.Native.Nat.{ℕ, ◌≤◌, ◌-◌}
-use lib.ListN.{length}
+use Prim.Native.Nat.{ℕ}
 use Rattle.rules.specs.Forward.{begins_empty}
 use Rattle.table.specs.Sheet.{sheet_in}
 use Rattle.table.specs.Index.{Ready}
@@ -8,7 +6,4 @@ use Rattle.states.specs.States.{Unset, Started}
 use Rattle.states.proofs.starts.forward_start.Given as goal
 
 abbrev pub invariant-loop-b : goal.invariant-loop-b
-invariant-loop-b l = (l.b ≤ l.n) × (length l.states ≡ length l.initial.states) × (Ready l.t → (m : ℕ) → Unset m l.initial.states → Started (begins_empty (sheet_in l.t)) m l.states l.b)
-
-abbrev pub decreases-loop-b : goal.decreases-loop-b
-decreases-loop-b l = l.n - l.b
+invariant-loop-b l = Ready l.t → (m : ℕ) → Unset m l.initial.states → Started (begins_empty (sheet_in l.t)) m l.states l.b

@@ -1,13 +1,8 @@
-use mathlib.Core.Path.{◌≡◌}
-use Prim.Native.Nat.{ℕ, ◌≤◌, ◌-◌}
-use lib.ListN.{length}
+use Prim.Native.Nat.{ℕ}
 use Rattle.rules.specs.Accept.{is_entry}
 use Rattle.table.specs.Sheet.{sheet_in}
 use Rattle.states.specs.States.{Unset, Started, Waits}
 use Rattle.states.proofs.starts.global_start.Given as goal
 
 abbrev pub invariant-loop-b : goal.invariant-loop-b
-invariant-loop-b l = (l.b ≤ l.n) × (length l.states ≡ length l.initial.states) × ((m : ℕ) → Unset m l.initial.states → Started (is_entry (sheet_in l.t)) m l.states l.b) × Waits (is_entry (sheet_in l.t)) l.w.0 l.b
-
-abbrev pub decreases-loop-b : goal.decreases-loop-b
-decreases-loop-b l = l.n - l.b
+invariant-loop-b l = ((m : ℕ) → Unset m l.initial.states → Started (is_entry (sheet_in l.t)) m l.states l.b) × Waits (is_entry (sheet_in l.t)) l.w.0 l.b

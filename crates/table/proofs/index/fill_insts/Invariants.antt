@@ -1,11 +1,8 @@
 use mathlib.Core.Path.{◌≡◌}
-use Prim.Native.Nat.{◌-◌, ◌≤◌, ◌<◌}
+use Prim.Native.Nat.{◌<◌}
 use lib.ListN.{length}
 use Rattle.table.proofs.Filling.{Summing}
 use Rattle.table.proofs.index.fill_insts.Given as goal
 
 abbrev pub invariant-loop-b : goal.invariant-loop-b
-invariant-loop-b l = (length l.t ≡ length l.initial.t) × (l.b ≤ l.blocks) × (l.sum < 65536) × Summing l.b l.sum l.initial.t l.t
-
-abbrev pub decreases-loop-b : goal.decreases-loop-b
-decreases-loop-b l = l.blocks - l.b
+invariant-loop-b l = (length l.t ≡ length l.initial.t) × (l.sum < 65536) × Summing l.b l.sum l.initial.t l.t

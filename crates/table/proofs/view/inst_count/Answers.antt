@@ -4,4 +4,4 @@ use Rattle.table.proofs.Views.{instructions_are}
 use Rattle.table.proofs.view.inst_count.Goals as goal
 
 pub returns : goal.returns
-returns c = c.read_u32.ensures ∙ ap (field 2) c.row_of.ensures ∙ instructions_are _ _
+returns c = c.read.ensures ∙ ap (field 2) c.row_of.ensures ∙ instructions_are _ _

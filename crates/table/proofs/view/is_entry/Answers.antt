@@ -5,4 +5,4 @@ use Rattle.table.proofs.view.is_entry.Goals as goal
 
 pub returns : goal.returns
 unfolding flag_of
-returns c = ap flag_of (c.read_u32.ensures ∙ ap (field 4) c.row_of.ensures) ∙ entry_is _ _
+returns c = ap flag_of (c.read.ensures ∙ ap (field 4) c.row_of.ensures) ∙ entry_is _ _

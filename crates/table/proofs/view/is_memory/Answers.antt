@@ -5,4 +5,4 @@ use Rattle.table.proofs.view.is_memory.Goals as goal
 
 pub returns : goal.returns
 unfolding flag_of
-returns c = ap flag_of (c.read_u32.ensures ∙ ap (field 2) c.row_of.ensures) ∙ memory_is _ _
+returns c = ap flag_of (c.read.ensures ∙ ap (field 2) c.row_of.ensures) ∙ memory_is _ _

@@ -4,4 +4,4 @@ use Rattle.table.proofs.Sheets.{slots_are}
 use Rattle.table.proofs.view.slot_count.Goals as goal
 
 pub returns : goal.returns
-returns c = c.read_u32.ensures ∙ ap (field 1) c.row_of.ensures ∙ sym (slots_are _)
+returns c = c.read.ensures ∙ ap (field 1) c.row_of.ensures ∙ sym (slots_are _)

@@ -1,4 +1,3 @@
-use Prim.Native.Nat.{◌-◌, ◌^◌}
 use lib.Bits.{bit_or}
 use lib.ListN.{get_or}
 use Rattle.laws.proofs.Lists.{MapTo}
@@ -6,6 +5,3 @@ use Rattle.bits.proofs.sets.NumberSet.join.Given as goal
 
 abbrev pub invariant-loop-i : goal.invariant-loop-i
 invariant-loop-i l = MapTo 0 (λ j x. bit_or x (get_or l.other.words j 0)) l.initial.self.words l.i l.self.words
-
-abbrev pub decreases-loop-i : goal.decreases-loop-i
-decreases-loop-i l = 2 ^ 64 - l.i

@@ -1,6 +1,0 @@
-use mathlib.Core.Path.{sym}
-use lib.ListN.{get_or-eq_default}
-use Rattle.bits.proofs.tables.read_u32.Goals as goal
-
-pub returns-else-i-cells : goal.returns-else-i-cells
-returns-else-i-cells c = sym (get_or-eq_default c.args.cells.now 0 c.if-i-cells.false)

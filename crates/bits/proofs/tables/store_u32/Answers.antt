@@ -1,6 +1,0 @@
-use mathlib.Core.Path.{sym}
-use lib.Seq.{set_out}
-use Rattle.bits.proofs.tables.store_u32.Goals as goal
-
-pub returns-else-i-cells : goal.returns-else-i-cells
-returns-else-i-cells c = sym (set_out _ _ _ c.if-i-cells.false)
