@@ -48,7 +48,7 @@ use Rattle.table.proofs.Lookups.{insts_are, edits_fall_in}
 use Rattle.table.proofs.Filling.{total_part}
 use Rattle.table.proofs.Ranges.{before_low}
 use Rattle.accept.specs.Pairs.{Held, paired_by, after_edit, is_emergency, edits_of, is_home_of, home_set, shared_in, shared_set, some_emergency, pair_apart, edit_holds, each_holds}
-use Rattle.std.proofs.Common.{None, Some, Result, Ok, Err, is_some}
+use Rattle.std.proofs.Common.{None, Some, Result, Ok, Err}
 use Rattle.accept.proofs.Ranges.{range_from}
 use Rattle.accept.proofs.Blockwise.{all_and}
 use Rattle.accept.proofs.Reaching.{any_more, any_at, from_hit, from_some, in_hit, or_cases, or_left, or_right}
@@ -239,15 +239,9 @@ module _ (t : List ℕ) (h : Held) (e : Edit) (u n : ℕ) {x : Result Held (Unit
   pairs_stop y = sym (ap (λ (x : Result Held (Unit {0})). left_by x (edits_of (take (u - (n + 1)) (drop (n + 1) (sheet_in t).edits)))) y) ∙ pairs_on
 
 -- at the end all is well if none is open
-pub pairs_end : (t : List ℕ) (h : Held) (u n : ℕ) {x d : Bool} → u ≤ n → is_some h ≡ not x → paired_by h (edits_of (take (u - n) (drop n (sheet_in t).edits))) ≡ d → x ≡ d
-unfolding edits_of paired_by paired
-pairs_end t h u n {x} l e inv = let z : u - n ≡ 0 = omega arith in closed h x e ∙ rw z at inv
-  where
-    closed : (h : Held) (x : Bool) → is_some h ≡ not x → x ≡ paired_by h []
-    closed None true e = refl
-    closed None false e = never e
-    closed (Some k) true e = never (sym e)
-    closed (Some k) false e = refl
+pub pairs_end : (t : List ℕ) (h : Held) (u n : ℕ) {x d : Bool} → u ≤ n → x ≡ paired_by h [] → paired_by h (edits_of (take (u - n) (drop n (sheet_in t).edits))) ≡ d → x ≡ d
+unfolding edits_of
+pairs_end t h u n e c inv = let z : u - n ≡ 0 = omega arith in c ∙ rw z at inv
 
 pub pairs_start : (es : List Edit) → paired_by None es ≡ paired none es
 unfolding paired_by

@@ -8,7 +8,7 @@ ghost use Rattle.rules.specs.Accept.{edit_names, slot_exists, reg_exists, in_ord
 ghost use Rattle.table.specs.Sheet.{sheet_in};
 ghost use Rattle.table.specs.Index.{Ready};
 ghost use Rattle.table.specs.View.{edit_row};
-ghost use Rattle.accept.specs.Pairs.{after_edit, is_emergency, edits_of, home_set, shared_set, some_emergency, edit_holds, each_holds, pair_apart};
+ghost use Rattle.accept.specs.Pairs.{paired_by, after_edit, is_emergency, edits_of, home_set, shared_set, some_emergency, edit_holds, each_holds, pair_apart};
 
 use bits::sets::NumberSet;
 use bits::tables::read;
@@ -70,6 +70,17 @@ fn after(held: Option<(SpillSlot, PhysReg)>, e: Edit) -> Result<Option<(SpillSlo
     }
 }
 
+// At the end of a block no emergency spill is open.
+#[tactic(auto, unfolding(crate::specs::Pairs::paired_by, rules::specs::Accept::paired))]
+fn is_closed(held: Option<(SpillSlot, PhysReg)>) -> bool
+    ensures { result ≡ paired_by held [] }
+{
+    match held {
+        None => true,
+        Some(_) => false,
+    }
+}
+
 // The rows of the edits at the instructions of a block.
 fn edits_in(t: &[u32], b: Block) -> Range
     ensures { Ready t.now → in_order (sheet_in t.now).edits ≡ true
@@ -98,7 +109,7 @@ fn paired_in(t: &[u32], b: Block) -> bool
         };
         held = next;
     }
-    held.is_none()
+    is_closed(held)
 }
 
 fn all_paired(t: &[u32]) -> bool

@@ -89,7 +89,7 @@ impl Entity for Block {
 }
 
 #[derive(Clone, Copy)]
-pub struct EntitySet<E: Entity>(pub NumberSet, PhantomData<E>);
+pub struct EntitySet<E: Entity>(pub NumberSet, pub PhantomData<E>);
 
 pub type PhysRegSet = EntitySet<PhysReg>;
 

@@ -3,11 +3,11 @@
 // none should be is told. `oracle/replay` makes the list, and the judge's answers to it, which are this program's expected output.
 #![tactic(auto)]
 
-ghost use Rattle.std.specs.Prelude.{◌≡◌, ◌≤◌, length, IfOk};
+ghost use Rattle.std.specs.Prelude.{◌≡◌, ◌≤◌, length};
 
 use drifthurdle::clean;
+use entity::forms::Refusal;
 use program::reading::read_full;
-use std::io;
 use std::io::Write;
 
 const PATTERN: u8 = 165;
@@ -26,39 +26,59 @@ fn number(s: &[u8]) -> (u64, &[u8])
     (value, &[])
 }
 
-// The bytes from `from` on have the pattern, or it is told.
-fn tell_touched<W: Write>(writer: &mut W, out: &[u8], from: usize) -> io::Result<()> {
-    if !out.iter().skip(from).all(|b| *b == PATTERN) {
-        writer.write_all(b"a byte is touched\n")?;
-    }
-    Ok(())
+// Where a write fails, what it was to write is left out, the later ones are tried, and nothing says so.
+fn write<W: Write>(writer: &mut W, bytes: &[u8]) {
+    let _ = writer.write_all(bytes);
 }
 
-fn answer<W: Write>(
-    writer: &mut W,
-    sheet: &[u8],
-    level: u32,
-    sweep: u32,
-    out: &mut [u8],
-) -> io::Result<()> {
+// Each digit is a write of its own.
+fn write_number<W: Write>(writer: &mut W, n: usize) {
+    if 9 < n {
+        write_number(writer, n / 10);
+    }
+    write(writer, &[b'0' + (n % 10) as u8]);
+}
+
+// The bytes from `from` on have the pattern, or it is told.
+fn tell_touched<W: Write>(writer: &mut W, out: &[u8], from: usize) {
+    if !out.iter().skip(from).all(|b| *b == PATTERN) {
+        write(writer, b"a byte is touched\n");
+    }
+}
+
+fn write_refused<W: Write>(writer: &mut W, r: Refusal) {
+    write(writer, b"ans -");
+    write_number(writer, r.sum() as usize);
+    write(writer, b" 0\n\n");
+}
+
+fn write_answer<W: Write>(writer: &mut W, out: &[u8], n: usize) {
+    write(writer, b"ans ");
+    write_number(writer, n);
+    write(writer, b" ");
+    write_number(writer, n);
+    write(writer, b"\n");
+    write(writer, out.get(..n).unwrap_or(out));
+    write(writer, b"\n");
+}
+
+fn answer<W: Write>(writer: &mut W, sheet: &[u8], level: u32, sweep: u32, out: &mut [u8]) {
     out.fill(PATTERN);
     match clean(sheet, level, sweep, out) {
         Err(r) => {
-            tell_touched(writer, out, 0)?;
-            write!(writer, "ans -{} 0\n\n", r.sum())
+            tell_touched(writer, out, 0);
+            write_refused(writer, r)
         }
         Ok(n) => {
-            tell_touched(writer, out, n)?;
-            writeln!(writer, "ans {n} {n}")?;
-            writer.write_all(out.get(..n).unwrap_or(out))?;
-            writer.write_all(b"\n")
+            tell_touched(writer, out, n);
+            write_answer(writer, out, n)
         }
     }
 }
 
 // The case at the start, and what follows it.
-fn case<'a, W: Write>(writer: &mut W, s: &'a [u8], out: &mut [u8]) -> io::Result<&'a [u8]>
-    ensures { IfOk result (λ rest. length rest.now ≤ length s.now) }
+fn case<'a, W: Write>(writer: &mut W, s: &'a [u8], out: &mut [u8]) -> &'a [u8]
+    ensures { length result.now ≤ length s.now }
 {
     let (level, s) = number(s);
     let (sweep, s) = number(s);
@@ -74,20 +94,19 @@ fn case<'a, W: Write>(writer: &mut W, s: &'a [u8], out: &mut [u8]) -> io::Result
             (level % 0x1_0000_0000) as u32,
             (sweep % 0x1_0000_0000) as u32,
             out,
-        )?;
+        );
     }
-    Ok(s.get(1..).unwrap_or(&[]))
+    s.get(1..).unwrap_or(&[])
 }
 
 // The word `case` and the blank after it.
 const WORD: usize = 5;
 
-fn replay<W: Write>(writer: &mut W, s: &[u8], out: &mut [u8]) -> io::Result<()> {
+fn replay<W: Write>(writer: &mut W, s: &[u8], out: &mut [u8]) {
     let mut rest = s;
     while !rest.is_empty() {
-        rest = case(writer, rest.get(WORD..).unwrap_or(&[]), out)?;
+        rest = case(writer, rest.get(WORD..).unwrap_or(&[]), out);
     }
-    Ok(())
 }
 
 // So many zeros. The contract gives their number alone, so that a proof does not count a large buffer's.
@@ -97,10 +116,9 @@ fn zeros<const N: usize>() -> [u8; N]
     [0; N]
 }
 
-// Where a write fails, the rest is not written, and nothing says so.
 fn main(rt: HostRuntime) {
     let mut s = zeros::<524288>();
     let mut out = zeros::<131072>();
     let (n, _) = read_full(&mut rt.stdin(), &mut s);
-    let _ = replay(&mut rt.stdout(), &s[..n], &mut out);
+    replay(&mut rt.stdout(), &s[..n], &mut out);
 }

@@ -74,7 +74,9 @@ fn take_known(rec: &mut WalkRecord, states: &[u32], b: Block)
 {
     if fits(states, b) {
         let at = FLAGS + b.0 as usize * KNOWN;
-        rec.cells[HELD..DEFINED].copy_from_slice(&states[at..at + KNOWN]);
+        for i in 0..KNOWN {
+            rec.cells[HELD + i] = states[at + i];
+        }
     }
 }
 

@@ -11,4 +11,4 @@ pub loop-n-preserved : goal.loop-n-preserved
 loop-n-preserved c = pairs_next _ _ _ _ _ c.loop-n-test.true c.sheet_edit.ensures c.after.ensures c.loop-n.invariant c.in-Ok.is
 
 pub returns : goal.returns
-returns c = λ g o. pairs_end _ _ _ _ c.loop-n-test.false c.is_none.ensures c.loop-n.invariant ∙ pairs_start _ ∙ ap (paired none) (c.edits_in-rows.ensures g o)
+returns c = λ g o. pairs_end _ _ _ _ c.loop-n-test.false c.is_closed.ensures c.loop-n.invariant ∙ pairs_start _ ∙ ap (paired none) (c.edits_in-rows.ensures g o)
