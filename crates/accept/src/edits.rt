@@ -71,6 +71,7 @@ fn after(held: Option<(SpillSlot, PhysReg)>, e: Edit) -> Result<Option<(SpillSlo
 }
 
 // At the end of a block no emergency spill is open.
+// Stays: by this contract the edit `left_open` is refused; in `paired_in` it was refused for its form alone.
 #[tactic(auto, unfolding(crate::specs::Pairs::paired_by, rules::specs::Accept::paired))]
 fn is_closed(held: Option<(SpillSlot, PhysReg)>) -> bool
     ensures { result ≡ paired_by held [] }

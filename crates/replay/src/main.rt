@@ -27,6 +27,7 @@ fn number(s: &[u8]) -> (u64, &[u8])
 }
 
 // Where a write fails, what it was to write is left out, the later ones are tried, and nothing says so.
+// Stays: with `write!` and `?` the program stops at the first write that fails, and a number is one write.
 fn write<W: Write>(writer: &mut W, bytes: &[u8]) {
     let _ = writer.write_all(bytes);
 }

@@ -68,6 +68,7 @@ pub fn begin_empty(rec: &mut WalkRecord)
 }
 
 // The record takes a block's state in place of its own.
+// Stays: with `copy_from_slice` the archive needs `memmove` from its host, which it did not before.
 #[tactic(auto, unfolding(crate::specs::States::fits))]
 fn take_known(rec: &mut WalkRecord, states: &[u32], b: Block)
     ensures { fits states.now b.0 ≡ true → record_of rec.new ≡ with_known (known_at states.now (state_at b.0)) (record_of rec.old) }
